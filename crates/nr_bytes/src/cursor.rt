@@ -1,6 +1,6 @@
 //! Reading fields in order.
 
-ghost use Rattle.std.specs.Prelude.{◌≡◌, ◌+◌, ◌≤◌, length};
+ghost use Rattle.std.specs.Prelude.{◌≡◌, ◌+◌, ◌≤◌, length, IfOk};
 ghost use Rattle.nr_spec_wire.specs.Reading.{Spot, start_of, number_at, bytes_at, part_at, between, Gives, IsOnward};
 ghost use Rattle.nr_bytes.specs.Views.{short_at};
 
@@ -70,6 +70,7 @@ impl<'a> Cursor<'a> {
     // The next bytes, and the cursor behind them.
     fn split(&mut self, n: usize) -> Result<&'a [u8], Short>
         ensures value { Gives (λ piece. piece.now) short_at result self.old self.new (bytes_at n self.old) }
+        ensures length { IfOk result (λ piece. length piece.now ≡ n) }
         ensures onward { IsOnward self.old self.new }
     {
         if self.rest.len() < n {
@@ -120,6 +121,7 @@ impl<'a> Cursor<'a> {
     /// The next `n` bytes.
     pub fn take(&mut self, n: u32) -> Result<&'a [u8], Short>
         ensures value { Gives (λ piece. piece.now) short_at result self.old self.new (bytes_at n self.old) }
+        ensures length { IfOk result (λ piece. length piece.now ≡ n) }
         ensures onward { IsOnward self.old self.new }
     {
         self.split(n as usize)

@@ -90,6 +90,10 @@ pub record IsAnswer (a : AnswerFile) : Type 0 where
 abbrev pub is_first : ℕ → Bool
 is_first first = nat_le 1 first && nat_le first most_first
 
+-- the offset of a body in its file
+abbrev pub body_offset : ℕ
+body_offset = 53
+
 -- A log begins with its genesis value; behind the first entry any value may stand.
 abbrev pub is_prev : ℕ → ℕ → List ℕ → Bool
 is_prev asn first prev = nat_lt 1 first || bytes_eq prev (genesis_value asn)
@@ -131,9 +135,21 @@ entries_at checkpoint last (suc n) s = do
   others ← entries_at false first.0.time n first.1
   Ok (first.0 ∷ others.0, others.1)
 
-unfoldable pub answer_of : List ℕ → Result AnswerFile ℕ
-answer_of bytes = do
-  magic ← magic_at answer_magic (start_of bytes)
+-- what stands before the entries
+pub record Opening : Type 0 where
+  pub asn : ℕ
+  pub first : ℕ
+  pub prev : List ℕ
+  pub body : Option (List ℕ)
+  pub count : ℕ
+
+-- The answer starts behind entry 1.
+abbrev pub is_later : ℕ → Bool
+is_later first = nat_lt 1 first
+
+unfoldable pub opening_at : Spot → Read Opening
+opening_at s = do
+  magic ← magic_at answer_magic s
   asn ← number_at 4 magic.1
   any_first ← number_at 8 asn.1
   first ← wants (is_first any_first.0) asn.1.at any_first
@@ -141,9 +157,21 @@ answer_of bytes = do
   prev ← wants (is_prev asn.0 first.0 any_prev.0) first.1.at any_prev
   any_flag ← number_at 1 prev.1
   flag ← wants (is_body_flag first.0 any_flag.0) prev.1.at any_flag
-  body ← body_at (nat_lt 1 first.0) flag.1
+  body ← body_at (is_later first.0) flag.1
   any_count ← number_at 4 body.1
   count ← wants (nat_le 1 any_count.0) body.1.at any_count
-  entries ← entries_at (nat_lt 1 first.0) 0 count.0 count.1
-  head ← wanted_at (Some (record { asn = asn.0; seq = first.0 + count.0 - 1; time = last_time 0 entries.0 })) entries.1
-  ends_at head.1 (record { asn = asn.0; first = first.0; prev = prev.0; body = body.0; entries = entries.0; head = head.0 })
+  Ok (record { asn = asn.0; first = first.0; prev = prev.0; body = body.0; count = count.0 }, count.1)
+
+-- what the head has to speak of: the last entry
+abbrev pub head_of : Opening → List LogEntry → Head
+head_of o entries = record { asn = o.asn; seq = o.first + o.count - 1; time = last_time 0 entries }
+
+abbrev pub answer_from : Opening → List LogEntry → Authenticator → AnswerFile
+answer_from o entries head = record { asn = o.asn; first = o.first; prev = o.prev; body = o.body; entries = entries; head = head }
+
+unfoldable pub answer_of : List ℕ → Result AnswerFile ℕ
+answer_of bytes = do
+  opening ← opening_at (start_of bytes)
+  entries ← entries_at (is_later opening.0.first) 0 opening.0.count opening.1
+  head ← wanted_at (Some (head_of opening.0 entries.0)) entries.1
+  ends_at head.1 (answer_from opening.0 entries.0 head.0)

@@ -123,4 +123,5 @@ magic_at magic s = bytes_at 4 s >>= λ found. wants (bytes_eq found.0 magic) s.a
 unfoldable pub auths_of : List ℕ → Result (List Authenticator) ℕ
 auths_of bytes = do
   magic ← magic_at auths_magic (start_of bytes)
-  all_at authenticator_at magic.1
+  auths ← all_at authenticator_at magic.1
+  Ok auths.0

@@ -1,6 +1,6 @@
 -- Reading a file field by field, with the place of the first field that doesn't read. Offsets count bytes
 -- from the start of the file, and numbers have their highest byte first.
-use Rattle.std.specs.Prelude.{◌≡◌, ℕ, zero, suc, ◌+◌, ◌-◌, ◌≤◌, Bool, List, [], ◌∷◌, length, take, drop, Result, Ok, Err, nat_lt, ◌==◌, if◌then◌else◌}
+use Rattle.std.specs.Prelude.{◌≡◌, ℕ, zero, suc, ◌+◌, ◌-◌, ◌≤◌, Bool, List, [], ◌∷◌, length, take, drop, Result, Ok, Err, Option, None, Some, nat_lt, ◌==◌, if◌then◌else◌}
 use Rattle.byteorder.specs.Endian.{big_number}
 
 -- where reading stands
@@ -58,16 +58,26 @@ counted_at item (suc n) s = do
   others ← counted_at item n first.1
   Ok (first.0 ∷ others.0, others.1)
 
--- values to the end of the bytes. Each takes a byte or more, so the number of bytes is fuel enough.
-unfoldable pub values_at : {A : Type 0} → (Spot → Read A) → ℕ → Spot → Result (List A) ℕ
-values_at item zero s = Ok []
-values_at item (suc fuel) s = if length s.rest == 0 then Ok [] else (do
+-- Values to the end of the bytes. Each takes a byte or more, so the number of bytes is fuel enough.
+unfoldable pub values_at : {A : Type 0} → (Spot → Read A) → ℕ → Spot → Read (List A)
+values_at item zero s = Ok ([], s)
+values_at item (suc fuel) s = if length s.rest == 0 then Ok ([], s) else (do
   first ← item s
   others ← values_at item fuel first.1
-  Ok (first.0 ∷ others))
+  Ok (first.0 ∷ others.0, others.1))
 
-abbrev pub all_at : {A : Type 0} → (Spot → Read A) → Spot → Result (List A) ℕ
+abbrev pub all_at : {A : Type 0} → (Spot → Read A) → Spot → Read (List A)
 all_at item s = values_at item (length s.rest) s
+
+-- the values that were read, none after a fault
+abbrev pub rows : {A : Type 0} → Read (List A) → List A
+rows (Ok read) = read.0
+rows (Err place) = []
+
+-- the place of the fault, where there is one
+abbrev pub fault : {A : Type 0} → Result A ℕ → Option ℕ
+fault (Ok x) = None
+fault (Err place) = Some place
 
 -- ---- what a reader of the code answers
 

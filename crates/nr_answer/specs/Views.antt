@@ -1,0 +1,19 @@
+-- What this crate's types stand for in the definitions.
+use Rattle.std.specs.Prelude.{ℕ, List, Option, None, Some}
+use Rattle.nr_spec_log.specs.Authenticator.{Signature, Authenticator, Head}
+use Rattle.nr_answer.specs.declared.signature.Sig as declared_sig
+use Rattle.nr_answer.specs.declared.auth.Auth as declared_auth
+use Rattle.nr_answer.specs.declared.auth.Wanted as declared_wanted
+
+-- a signature without where it lies in memory
+abbrev pub signature_of : declared_sig.Sig → Signature
+signature_of s = record { leaf = s.leaf; height = s.height; pairs = s.pairs.now; path = s.path.now }
+
+-- an authenticator as its fields
+abbrev pub auth_of : declared_auth.Auth → Authenticator
+auth_of a = record { asn = a.asn; seq = a.seq; time = a.time; hash = a.hash.0; sig = signature_of a.sig }
+
+-- the entry that a head has to speak of
+abbrev pub wanted_of : Option declared_wanted.Wanted → Option Head
+wanted_of None = None
+wanted_of (Some w) = Some (record { asn = w.asn; seq = w.seq; time = w.time })

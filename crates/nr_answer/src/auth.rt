@@ -1,0 +1,108 @@
+//! Authenticators.
+
+ghost use Rattle.std.specs.Prelude.{◌≡◌, ◌==◌, IfOk, Option, None, Some};
+ghost use Rattle.nr_spec_wire.specs.Reading.{Reads, Gives, IsOnward, between};
+ghost use Rattle.nr_spec_log.specs.Authenticator.{wanted_at, authenticator_at, is_asn_of, is_seq_of, is_time_of};
+ghost use Rattle.nr_bytes.specs.Views.{offset_of};
+ghost use Rattle.nr_answer.specs.Views.{auth_of, wanted_of};
+
+use crate::fields::read_digest;
+use crate::signature::{Sig, read_signature};
+use nr_bytes::{Cursor, Place};
+use nr_chain::Digest;
+
+/// A signed statement that entry `seq` of the log of AS `asn` has this time, in microseconds, and this
+/// chain value. `whole` are the bytes that it was read from.
+#[derive(Clone, Copy, Debug)]
+pub struct Auth<'a> {
+    pub asn: u32,
+    pub seq: u64,
+    pub time: u64,
+    pub hash: Digest,
+    pub whole: &'a [u8],
+    sig: Sig<'a>,
+}
+
+/// The entry that an authenticator has to speak of.
+#[derive(Clone, Copy, Debug)]
+pub struct Wanted {
+    pub asn: u32,
+    pub seq: u64,
+    pub time: u64,
+}
+
+fn is_wanted_asn(wanted: Option<Wanted>, asn: u32) -> bool
+    ensures { result ≡ is_asn_of (wanted_of wanted) asn }
+{
+    match wanted {
+        None => true,
+        Some(w) => asn == w.asn,
+    }
+}
+
+fn is_wanted_seq(wanted: Option<Wanted>, seq: u64) -> bool
+    ensures { result ≡ is_seq_of (wanted_of wanted) seq }
+{
+    match wanted {
+        None => true,
+        Some(w) => seq == w.seq,
+    }
+}
+
+fn is_wanted_time(wanted: Option<Wanted>, time: u64) -> bool
+    ensures { result ≡ is_time_of (wanted_of wanted) time }
+{
+    match wanted {
+        None => true,
+        Some(w) => time == w.time,
+    }
+}
+
+/// An authenticator that speaks of the wanted entry. A fault may leave the cursor anywhere.
+#[tactic(auto, unfolding(nr_spec_log::specs::Authenticator::wanted_at))]
+pub fn read_wanted<'a>(cursor: &mut Cursor<'a>, wanted: Option<Wanted>) -> Result<Auth<'a>, Place>
+    ensures value { Reads auth_of offset_of result cursor.new (wanted_at (wanted_of wanted) cursor.old) }
+    ensures onward { IsOnward cursor.old cursor.new }
+    ensures whole { IfOk result (λ auth. auth.whole.now ≡ between cursor.old cursor.new) }
+{
+    let start = cursor.fork();
+    let asn = cursor.read_u32()?;
+    if !is_wanted_asn(wanted, asn) {
+        return Err(Place(start.at()));
+    }
+    let at = cursor.at();
+    let seq = cursor.read_u64()?;
+    if !is_wanted_seq(wanted, seq) {
+        return Err(Place(at));
+    }
+    let at = cursor.at();
+    let time = cursor.read_u64()?;
+    if !is_wanted_time(wanted, time) {
+        return Err(Place(at));
+    }
+    let hash = read_digest(cursor)?;
+    let sig = read_signature(cursor)?;
+    let whole = cursor.since(&start);
+    Ok(Auth {
+        asn,
+        seq,
+        time,
+        hash,
+        whole,
+        sig,
+    })
+}
+
+impl<'a> Auth<'a> {
+    /// Reads an authenticator, or names its first malformed field and leaves the cursor where it was.
+    pub fn read(cursor: &mut Cursor<'a>) -> Result<Auth<'a>, Place>
+        ensures value { Gives auth_of offset_of result cursor.old cursor.new (authenticator_at cursor.old) }
+        ensures onward { IsOnward cursor.old cursor.new }
+        ensures whole { IfOk result (λ auth. auth.whole.now ≡ between cursor.old cursor.new) }
+    {
+        let mut ahead = cursor.fork();
+        let auth = read_wanted(&mut ahead, None)?;
+        *cursor = ahead;
+        Ok(auth)
+    }
+}

@@ -1,0 +1,17 @@
+//! Authenticators, files of them, and answer files. The readers take no memory and copy nothing but
+//! digests: what they answer borrows the file's bytes, and a file that isn't in its grammar is answered
+//! with the place of its first malformed field.
+#![tactic(auto)]
+
+mod answer;
+mod auth;
+mod auths;
+mod entries;
+mod fields;
+mod opening;
+mod signature;
+
+pub use answer::Answer;
+pub use auth::Auth;
+pub use auths::{AuthIter, Auths};
+pub use entries::Entries;
