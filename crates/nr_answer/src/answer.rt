@@ -1,9 +1,9 @@
 //! Answer files.
 
-ghost use Rattle.std.specs.Prelude.{◌≡◌, IfSome};
+ghost use Rattle.std.specs.Prelude.{◌≡◌, ◌≤◌, IfSome, length};
 ghost use Rattle.std.specs.Option.{option_map};
 ghost use Rattle.nr_spec_wire.specs.Reading.{Answers};
-ghost use Rattle.nr_spec_log.specs.Answer.{answer_of, body_offset};
+ghost use Rattle.nr_spec_log.specs.Answer.{answer_of, body_offset, most_first};
 ghost use Rattle.nr_bytes.specs.Views.{offset_of};
 ghost use Rattle.nr_answer.specs.Views.{auth_of};
 
@@ -27,13 +27,16 @@ pub struct Answer<'a> {
 }
 
 impl<'a> Model for Answer<'a> {
-    ghost use Rattle.nr_spec_log.specs.Answer.{AnswerFile, answer_from};
+    ghost use Rattle.std.specs.Prelude.{◌≡◌, ◌≤◌, length};
+    ghost use Rattle.nr_spec_log.specs.Answer.{AnswerFile, answer_from, most_first};
     ghost use Rattle.nr_answer.specs.Openings.{opening_of};
     ghost use Rattle.nr_answer.specs.Views.{auth_of};
 
     ghost Value = { AnswerFile };
 
     ghost view = { λ a. answer_from (opening_of a.front) a.entries (auth_of a.head) };
+
+    ghost invariant = { λ a. (a.front.first ≤ most_first) × (a.front.count ≡ length a.entries) };
 }
 
 impl<'a> Answer<'a> {
@@ -70,9 +73,17 @@ impl<'a> Answer<'a> {
 
     /// The number of the first entry.
     pub fn first(&self) -> u64
-        ensures { result ≡ self.now.first }
+        ensures value { result ≡ self.now.first }
+        ensures range { result ≤ most_first }
     {
         self.front.first
+    }
+
+    /// How many entries it has.
+    pub fn count(&self) -> u32
+        ensures { result ≡ length self.now.entries }
+    {
+        self.front.count
     }
 
     /// The chain value before the first entry.

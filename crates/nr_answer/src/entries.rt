@@ -1,6 +1,6 @@
 //! The entries of an answer file.
 
-ghost use Rattle.std.specs.Prelude.{◌≡◌, IfOk};
+ghost use Rattle.std.specs.Prelude.{◌≡◌, IfOk, length};
 ghost use Rattle.std.specs.Iterator.{YieldsFirstBy, item_count};
 ghost use Rattle.nr_spec_wire.specs.Reading.{Reads, IsOnward};
 ghost use Rattle.nr_spec_log.specs.Answer.{is_wanted, entry_at, entries_at, last_time};
@@ -127,6 +127,7 @@ pub fn read_entries<'a>(
 ) -> Result<(Entries<'a>, u64), Place>
     ensures value { Reads (λ read. read.0) offset_of result cursor.new (entries_at checkpoint 0 count cursor.old) }
     ensures last { IfOk result (λ read. read.1 ≡ last_time 0 read.0) }
+    ensures count { IfOk result (λ read. length read.0 ≡ count) }
     ensures onward { IsOnward cursor.old cursor.new }
 {
     let start = cursor.fork();

@@ -1,5 +1,5 @@
 -- Reading entries one behind another, as a loop or an iterator does.
-use Rattle.std.proofs.Common.{◌≡◌, ℕ, zero, suc, ◌+◌, ◌-◌, ◌<◌, ◌≤◌, Bool, true, false, List, [], ◌∷◌, Option, Some, None, Result, Ok, Err, refl, sym, ap, ◌∙◌, arith}
+use Rattle.std.proofs.Common.{◌≡◌, ℕ, zero, suc, ◌+◌, ◌-◌, ◌<◌, ◌≤◌, Bool, true, false, List, [], ◌∷◌, length, Option, Some, None, Result, Ok, Err, refl, sym, ap, ◌∙◌, arith}
 use Rattle.nr_spec_wire.specs.Reading.{Spot, Read, ◌>>=◌, rows, fault}
 use Rattle.nr_spec_wire.proofs.Steps.{behind, ok_is}
 use Rattle.nr_spec_log.specs.Chain.{LogEntry}
@@ -69,3 +69,20 @@ pub ending-done : (checkpoint : Bool) (last count i : ℕ) (s : Spot) (read : Re
     → ending last (entries_at checkpoint last (count - i) s) ≡ ending 0 read → EndsWith read last s
 ending-done checkpoint last count i s read le so_far =
     ending-ok read last s (sym so_far ∙ ap (ending last) (entries-none checkpoint last (count - i) s (omega arith)))
+
+-- as many entries are read as are asked for
+pub length-entries : (checkpoint : Bool) (last n : ℕ) (s : Spot) → fault (entries_at checkpoint last n s) ≡ None → length (rows (entries_at checkpoint last n s)) ≡ n
+unfolding entries_at
+length-entries checkpoint last zero s none = refl
+length-entries checkpoint last (suc n) s none = first_then (λ e next h. length-entries false e.time n next h) (entry_at checkpoint last s) none
+  where
+    Shorter : Type 0
+    Shorter = (e : LogEntry) (next : Spot) → fault (entries_at false e.time n next) ≡ None → length (rows (entries_at false e.time n next)) ≡ n
+
+    others_then : (e : LogEntry) (read : Read (List LogEntry)) → (fault read ≡ None → length (rows read) ≡ n) → fault (behind e read) ≡ None → length (rows (behind e read)) ≡ suc n
+    others_then e (Ok others) h none = omega (arith, h refl)
+    others_then e (Err place) h none = absurd cc
+
+    first_then : Shorter → (read : Read LogEntry) → fault (read >>= λ first. behind first.0 (entries_at false first.0.time n first.1)) ≡ None → length (rows (read >>= λ first. behind first.0 (entries_at false first.0.time n first.1))) ≡ suc n
+    first_then shorter (Ok first) none = others_then first.0 (entries_at false first.0.time n first.1) (shorter first.0 first.1) none
+    first_then shorter (Err place) none = absurd cc

@@ -2,7 +2,7 @@ use Rattle.std.proofs.Common.{◌≡◌, sym, ap, subst, ◌∙◌, Ok, Err, rul
 use Rattle.std.proofs.lemmas.Result.{err_from_is_err_and}
 use Rattle.nr_spec_wire.specs.Reading.{Spot}
 use Rattle.nr_spec_log.specs.Answer.{entries_at}
-use Rattle.nr_spec_log.proofs.EntrySteps.{EndsWith, ending-goes, ending-fails, ending-done}
+use Rattle.nr_spec_log.proofs.EntrySteps.{length-entries, ending-goes, ending-fails, ending-done}
 use Rattle.nr_bytes.specs.Views.{offset_of}
 use Rattle.nr_chain.specs.Views.{entry_of}
 use Rattle.nr_answer.proofs.entries.read_entries.Goals as goal
@@ -34,3 +34,6 @@ returns-clause-value c =
 pub returns-clause-last : goal.returns-clause-last
 returns-clause-last c = (ending-done c.loop.wanted c.loop.last c.args.count c.loop.counter c.loop.cursor
     (entries_at c.args.checkpoint 0 c.args.count c.fork-start.result) c.loop-test.false c.loop.invariant.so_far).is_last
+
+pub returns-clause-count : goal.returns-clause-count
+returns-clause-count c = length-entries c.args.checkpoint 0 c.args.count c.fork-start.result (invariant_of-entries c)
