@@ -1,0 +1,14 @@
+-- A file that is there and within its limit is present.
+use Rattle.std.proofs.Common.{◌≡◌, ℕ, ◌≤◌, length, List, [], Option, Some, None, Ok, refl, sym, ap, ◌∙◌, arith}
+use Rattle.std.specs.Prelude.{option_map, nat_le}
+use Rattle.std.proofs.lemmas.Bool.{le-leb}
+use Rattle.nr_ports.specs.Ports.{bytes_of}
+use Rattle.netreview.specs.Command.{Input, input_limit, present}
+
+pub present-within : (input : Input) (file : Option (List ℕ)) (size : ℕ) (bytes : List ℕ) → Some size ≡ option_map length file → size ≤ input_limit input
+    → (size ≡ length (bytes_of file) → bytes ≡ bytes_of file) → present input file ≡ Ok bytes
+present-within input None size bytes counted within whole = absurd cc
+present-within input (Some held) size bytes counted within whole =
+    let is : size ≡ length held = cc in
+    let small : length held ≤ input_limit input = omega arith in
+    rw (le-leb (length held) (input_limit input) small) (ap (λ (b : List ℕ). Ok b) (sym (whole is)))

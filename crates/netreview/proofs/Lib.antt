@@ -1,0 +1,4 @@
+pub mod InputLemmas
+pub mod LinkLemmas
+pub mod WordLemmas
+pub mod ReportLemmas

@@ -1,0 +1,114 @@
+-- What the program answers: from its words and what the files hold to a status and a text.
+use Rattle.std.specs.Prelude.{ℕ, nat_le, if◌then◌else◌, List, [], ◌∷◌, ◌++◌, length, Option, None, Some, Result, Ok, Err, codes}
+use Rattle.std.specs.Fmt.{decimal}
+use Rattle.hex.specs.Hex.{encode_lower}
+use Rattle.nr_spec_wire.specs.Reading.{◌>>=◌}
+use Rattle.nr_spec_log.specs.Authenticator.{Authenticator, auths_of}
+use Rattle.nr_spec_log.specs.Answer.{AnswerFile, answer_of}
+use Rattle.nr_spec_history.specs.Conflicts.{Period}
+use Rattle.nr_spec_history.specs.Report.{Fact, Form, Head, Short, outcome, line, report_text}
+use Rattle.nr_ports.specs.Ports.{Contents}
+use Rattle.netreview.specs.Words.{Request, request_in}
+
+-- ---- input files
+
+pub data Input : Type 0 where
+  AnswerInput : Input
+  AuthsInput : Input
+
+-- the word for it in the lines that the program prints
+abbrev pub input_name : Input → List ℕ
+input_name AnswerInput = codes "answer"
+input_name AuthsInput = codes "auths"
+
+-- its greatest size in bytes
+abbrev pub input_limit : Input → ℕ
+input_limit AnswerInput = 2147483647
+input_limit AuthsInput = 1073741824
+
+-- ---- refusals
+
+pub data Refusal : Type 0 where
+  -- no file has the name
+  NoFile : (input : Input) → Refusal
+  -- the file is longer than its limit
+  Limit : (input : Input) (found : ℕ) → Refusal
+  -- the file isn't in its grammar; the place of the first malformed field
+  Malformed : (input : Input) (place : ℕ) → Refusal
+  -- what the files say refuses the audit
+  Refused : (fact : Fact) → Refusal
+
+-- the bytes of an input file that is there and within its limit
+abbrev pub present : Input → Option (List ℕ) → Result (List ℕ) Refusal
+present input None = Err (NoFile input)
+present input (Some bytes) = if nat_le (length bytes) (input_limit input) then Ok bytes else Err (Limit input (length bytes))
+
+-- what a file that is in its grammar holds
+abbrev pub well_formed : {A : Type 0} → Input → Result A ℕ → Result A Refusal
+well_formed input (Ok value) = Ok value
+well_formed input (Err place) = Err (Malformed input place)
+
+abbrev pub judged : {A : Type 0} → Result A Fact → Result A Refusal
+judged (Ok value) = Ok value
+judged (Err fact) = Err (Refused fact)
+
+-- the first refusal, or the conflicts
+unfoldable pub audit_of : Contents → Request → Result (List Authenticator) Refusal
+audit_of held q = do
+  answer_bytes ← present AnswerInput (held q.answer)
+  answer ← well_formed AnswerInput (answer_of answer_bytes)
+  auths_bytes ← present AuthsInput (held q.auths)
+  auths ← well_formed AuthsInput (auths_of auths_bytes)
+  judged (outcome answer q.period auths)
+
+-- ---- endings
+
+-- the status with which the program ends, and the text that it offers to the sink
+pub record Ending : Type 0 where
+  pub status : ℕ
+  pub text : List ℕ
+
+abbrev pub fact_words : Fact → List (List ℕ)
+fact_words Form = codes "form" ∷ codes "answer" ∷ []
+fact_words (Head head chain) = codes "head" ∷ encode_lower head ∷ encode_lower chain ∷ []
+fact_words (Short head to) = codes "short" ∷ decimal head ∷ decimal to ∷ []
+
+unfoldable pub refusal_ending : Refusal → Ending
+refusal_ending (NoFile input) = record { status = 7; text = line (codes "refused" ∷ codes "nofile" ∷ input_name input ∷ []) }
+refusal_ending (Limit input found) =
+    record { status = 7; text = line (codes "refused" ∷ codes "limit" ∷ input_name input ∷ decimal found ∷ decimal (input_limit input) ∷ []) }
+refusal_ending (Malformed input place) = record { status = 3; text = line (codes "malformed" ∷ input_name input ∷ decimal place ∷ []) }
+refusal_ending (Refused fact) = record { status = 7; text = line (codes "refused" ∷ fact_words fact) }
+
+-- 1 where there is a conflict
+abbrev pub report_status : List Authenticator → ℕ
+report_status [] = 0
+report_status (first ∷ others) = 1
+
+unfoldable pub report_ending : List Authenticator → Ending
+report_ending conflicts = record { status = report_status conflicts; text = report_text conflicts }
+
+-- the report where nothing refuses it
+abbrev pub concluded : Result (List Authenticator) Refusal → Result Ending Refusal
+concluded decided = decided >>= λ conflicts. Ok (report_ending conflicts)
+
+abbrev pub ended : Result Ending Refusal → Ending
+ended (Ok ending) = ending
+ended (Err refusal) = refusal_ending refusal
+
+abbrev pub usage_ending : Ending
+usage_ending = record { status = 2; text = line (codes "usage" ∷ []) }
+
+abbrev pub read_fault_ending : Ending
+read_fault_ending = record { status = 4; text = line (codes "read" ∷ codes "fault" ∷ []) }
+
+abbrev pub memory_ending : Ending
+memory_ending = record { status = 6; text = line (codes "memory" ∷ []) }
+
+abbrev pub answered : Contents → Option Request → Ending
+answered held None = usage_ending
+answered held (Some q) = ended (concluded (audit_of held q))
+
+-- what the words and the files give
+abbrev pub run_of : Contents → List (List ℕ) → Ending
+run_of held words = answered held (request_in words)

@@ -1,0 +1,19 @@
+-- What the endings of the code stand for in the definitions.
+use Rattle.std.specs.Prelude.{◌≡◌, ℕ, List, [], ◌∷◌, ◌++◌, filter}
+use Rattle.std.specs.List.{flat_map}
+use Rattle.std.specs.String.{string_bytes}
+use Rattle.nr_spec_log.specs.Authenticator.{Authenticator}
+use Rattle.nr_spec_history.specs.Report.{conflict_line}
+use Rattle.netreview.specs.Command as command
+use Rattle.netreview.specs.declared.ending.Ending as declared_ending
+use Rattle.netreview.specs.declared.ending.Fixed as declared_fixed
+
+abbrev pub ending_of : declared_ending.Ending → command.Ending
+ending_of e = record { status = e.status; text = string_bytes e.text }
+
+abbrev pub fixed_of : declared_fixed.Fixed → command.Ending
+fixed_of e = record { status = e.status; text = e.text.now }
+
+-- the ending of the report whose conflicts have these lines
+abbrev pub Reports : List ℕ → command.Ending → Type 0
+Reports lines e = (conflicts : List Authenticator) → lines ≡ flat_map conflict_line conflicts → e ≡ command.report_ending conflicts

@@ -1,0 +1,7 @@
+pub mod Words
+pub mod Command
+pub mod Views
+pub mod Running
+pub mod Requests
+pub mod Links
+pub mod Endings

@@ -1,0 +1,23 @@
+-- What a run may answer, and what the sink has of it.
+use Rattle.std.specs.Prelude.{◌≡◌, ℕ, ◌⊎◌, List, ◌++◌, Option, None, Some}
+use Rattle.nr_ports.specs.Ports.{Contents}
+use Rattle.nr_ports.specs.Views.{TookSome}
+use Rattle.netreview.specs.Command.{Ending, run_of, read_fault_ending, memory_ending}
+
+-- The ending is that of a read fault, or that of want of memory, or, where the files tell what they hold,
+-- the one that the words and the files give.
+abbrev pub MayEnd : Option Contents → List (List ℕ) → Ending → Type 0
+MayEnd told words e = (e ≡ read_fault_ending) ⊎ ((e ≡ memory_ending) ⊎ ((held : Contents) → told ≡ Some held → e ≡ run_of held words))
+
+-- the sink took the whole text behind what it had
+abbrev pub TookAll : Option (List ℕ) → Option (List ℕ) → List ℕ → Type 0
+TookAll old new text = (before : List ℕ) → old ≡ Some before → new ≡ Some (before ++ text)
+
+-- the sink took some first bytes of the text, or none
+abbrev pub TookFront : Option (List ℕ) → Option (List ℕ) → List ℕ → Type 0
+TookFront old new text = (before : List ℕ) → old ≡ Some before → TookSome before text new
+
+-- The status is the ending's, and the sink took its whole text; or the sink failed, which is status 5, or
+-- found no memory, which is 6, and took some first bytes.
+abbrev pub Delivers : Option (List ℕ) → Option (List ℕ) → Ending → ℕ → Type 0
+Delivers old new e status = ((status ≡ e.status) × TookAll old new e.text) ⊎ (((status ≡ 5) ⊎ (status ≡ 6)) × TookFront old new e.text)

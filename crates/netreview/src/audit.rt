@@ -1,0 +1,92 @@
+//! The command `audit`: an answer against the authenticators that were handed in.
+
+ghost use Rattle.std.specs.Prelude.{◌≡◌, ◌≢◌, ◌≤◌, Some, IfOk};
+ghost use Rattle.std.specs.List.{flat_map};
+ghost use Rattle.std.specs.String.{string_bytes};
+ghost use Rattle.nr_spec_log.specs.Authenticator.{Authenticator};
+ghost use Rattle.nr_spec_history.specs.Report.{conflict_line, outcome};
+ghost use Rattle.nr_ports.specs.Ports.{Contents};
+ghost use Rattle.netreview.specs.Command.{audit_of, concluded, judged, report_ending};
+ghost use Rattle.netreview.specs.Views.{Decides, CountsReads};
+ghost use Rattle.netreview.specs.Requests.{period_of, request_of};
+ghost use Rattle.netreview.specs.Endings.{ending_of, Reports};
+
+use crate::conflicts::conflict_lines;
+use crate::ending::Ending;
+use crate::input::Input;
+use crate::links::link_entries;
+use crate::reading::{read_answer, read_auths, read_input};
+use crate::refusal::{Fact, Refusal, Stop};
+use crate::words::{Period, Request};
+use nr_answer::{Answer, Auths};
+use nr_ports::Files;
+use std::alloc::{AllocError, Global};
+
+// The lines of the conflicts, or the one line `clean` where there are none.
+fn report(alloc: Global, lines: String) -> Result<Ending, AllocError>
+    ensures value { IfOk result (λ e. Reports (string_bytes lines) (ending_of e)) }
+    ensures status { IfOk result (λ e. e.status ≤ 1) }
+{
+    if lines.as_str().is_empty() {
+        return Ok(Ending {
+            status: 0,
+            text: String::from_str(alloc, "clean\n")?,
+        });
+    }
+    Ok(Ending {
+        status: 1,
+        text: lines,
+    })
+}
+
+#[tactic(auto, unfolding(nr_spec_history::specs::Report::outcome))]
+fn judge(
+    alloc: Global,
+    answer: &Answer<'_>,
+    auths: &Auths<'_>,
+    period: &Period,
+) -> Result<Ending, Stop>
+    ensures value { Decides ending_of result (concluded (judged (outcome answer.now (period_of period.now) auths.now))) }
+    ensures status { IfOk result (λ e. e.status ≤ 1) }
+    ensures reads { result ≢ Err Stop.ReadFault }
+{
+    if answer.first() != 1 {
+        return Err(Stop::Refused(Refusal::Refused(Fact::Form)));
+    }
+    let links = link_entries(alloc, answer)?;
+    let head = answer.head();
+    if head.hash.0.as_slice() != links.value.0.as_slice() {
+        return Err(Stop::Refused(Refusal::Refused(Fact::Head {
+            head: head.hash,
+            chain: links.value,
+        })));
+    }
+    if head.time <= period.to {
+        return Err(Stop::Refused(Refusal::Refused(Fact::Short {
+            head: head.time,
+            to: period.to,
+        })));
+    }
+    let lines = conflict_lines(alloc, answer.asn(), answer.first(), period, &links, auths)?;
+    Ok(report(alloc, lines)?)
+}
+
+/// What the request gives: the report, or the first thing that stops it.
+#[tactic(auto, unfolding(crate::specs::Command::audit_of))]
+pub fn audit<F: Files>(
+    alloc: Global,
+    files: &mut F,
+    request: &Request<'_>,
+) -> Result<Ending, Stop>
+    ensures value { (held : Contents) → F.holds files.old ≡ Some held → Decides ending_of result (concluded (audit_of held (request_of request.now))) }
+    ensures status { IfOk result (λ e. e.status ≤ 1) }
+    ensures same { F.holds files.new ≡ F.holds files.old }
+    ensures cause { CountsReads (F.read_faults files.old) (F.read_faults files.new) result }
+    ensures writes { F.write_faults files.new ≡ F.write_faults files.old }
+{
+    let answer_bytes = read_input(alloc, files, Input::Answer, request.answer)?;
+    let answer = read_answer(&answer_bytes)?;
+    let auths_bytes = read_input(alloc, files, Input::Auths, request.auths)?;
+    let auths = read_auths(&auths_bytes)?;
+    judge(alloc, &answer, &auths, &request.period)
+}

@@ -1,0 +1,67 @@
+//! The conflicts of an answer with the authenticators that were handed in.
+
+ghost use Rattle.std.specs.Prelude.{◌≡◌, IfOk, filter};
+ghost use Rattle.std.specs.List.{flat_map};
+ghost use Rattle.std.specs.String.{string_bytes};
+ghost use Rattle.nr_spec_history.specs.Conflicts.{is_presented, is_conflict};
+ghost use Rattle.nr_spec_history.specs.Report.{conflict_line};
+ghost use Rattle.nr_answer.specs.Views.{auth_of};
+ghost use Rattle.netreview.specs.Links.{links_in, IsNumbered};
+ghost use Rattle.netreview.specs.Requests.{period_of};
+
+use crate::links::{Links, is_entry_stated};
+use crate::words::Period;
+use nr_answer::{Auth, Auths};
+use std::alloc::{AllocError, Global};
+
+// Whether an authenticator names the AS of the answer and has its time in the period.
+fn is_auth_presented(asn: u32, period: &Period, auth: &Auth<'_>) -> bool
+    ensures { result ≡ is_presented asn (period_of period.now) (auth_of auth.now) }
+{
+    auth.asn == asn && period.from <= auth.time && auth.time <= period.to
+}
+
+/// Whether an authenticator is presented and no entry is the one that it states.
+fn is_in_conflict(
+    asn: u32,
+    first: u64,
+    period: &Period,
+    links: &Links,
+    auth: &Auth<'_>,
+) -> bool
+    requires { IsNumbered first (links_in links.now) }
+    ensures { result ≡ is_conflict asn (period_of period.now) (links_in links.now) (auth_of auth.now) }
+{
+    is_auth_presented(asn, period, auth) && !is_entry_stated(links, first, auth)
+}
+
+fn line_of(alloc: Global, auth: &Auth<'_>) -> Result<String, AllocError>
+    ensures { IfOk result (λ text. string_bytes text ≡ conflict_line (auth_of auth.now)) }
+{
+    let seq = auth.seq;
+    let time = auth.time;
+    let hash = hex::encode(alloc, auth.hash.0.as_slice())?;
+    format!(in alloc; "conflict {seq} {time} {hash}\n")
+}
+
+/// One line for each conflict, in file order, repeats included.
+pub fn conflict_lines(
+    alloc: Global,
+    asn: u32,
+    first: u64,
+    period: &Period,
+    links: &Links,
+    auths: &Auths<'_>,
+) -> Result<String, AllocError>
+    requires { IsNumbered first (links_in links.now) }
+    ensures { IfOk result (λ text. string_bytes text
+        ≡ flat_map conflict_line (filter (is_conflict asn (period_of period.now) (links_in links.now)) auths.now)) }
+{
+    let mut text = String::new(alloc);
+    for auth in auths.iter() {
+        if is_in_conflict(asn, first, period, links, &auth) {
+            text.push_str(line_of(alloc, &auth)?.as_str())?;
+        }
+    }
+    Ok(text)
+}

@@ -1,0 +1,32 @@
+//! The input files of a command.
+
+ghost use Rattle.std.specs.Prelude.{◌≡◌};
+ghost use Rattle.netreview.specs.Command.{input_name, input_limit};
+ghost use Rattle.netreview.specs.Views.{input_of};
+
+/// An input file, by what it is for.
+#[derive(Clone, Copy, Debug, PartialEq, Eq)]
+pub enum Input {
+    Answer,
+    Auths,
+}
+
+/// The word for an input file in the lines that the program prints.
+pub fn name_of(input: Input) -> &'static str
+    ensures { result.now ≡ input_name (input_of input) }
+{
+    match input {
+        Input::Answer => "answer",
+        Input::Auths => "auths",
+    }
+}
+
+/// The greatest size of an input file in bytes.
+pub fn limit_of(input: Input) -> u64
+    ensures { result ≡ input_limit (input_of input) }
+{
+    match input {
+        Input::Answer => 2_147_483_647,
+        Input::Auths => 1_073_741_824,
+    }
+}

@@ -1,0 +1,12 @@
+#![tactic(auto)]
+
+mod audit;
+mod conflicts;
+mod ending;
+mod input;
+mod links;
+mod reading;
+mod refusal;
+mod words;
+
+fn main() {}

@@ -1,0 +1,55 @@
+//! Reading an input file in whole.
+
+ghost use Rattle.std.specs.Prelude.{◌≡◌, Some};
+ghost use Rattle.nr_spec_log.specs.Answer.{answer_of};
+ghost use Rattle.nr_spec_log.specs.Authenticator.{auths_of};
+ghost use Rattle.nr_ports.specs.Ports.{Contents};
+ghost use Rattle.netreview.specs.Command.{present, well_formed, AnswerInput, AuthsInput};
+ghost use Rattle.netreview.specs.Views.{input_of, Decides, Settles, CountsReads};
+
+use crate::input::{Input, limit_of};
+use crate::refusal::{Refusal, Stop};
+use nr_answer::{Answer, Auths};
+use nr_ports::{Files, read_whole};
+use std::alloc::Global;
+
+/// The bytes of an input file that is there and within its limit. Nothing is read of one that isn't.
+pub fn read_input<F: Files>(
+    alloc: Global,
+    files: &mut F,
+    input: Input,
+    name: &str,
+) -> Result<Vec<u8>, Stop>
+    ensures value { (held : Contents) → F.holds files.old ≡ Some held → Decides (λ bytes. bytes.items) result (present (input_of input) (held name.now)) }
+    ensures same { F.holds files.new ≡ F.holds files.old }
+    ensures cause { CountsReads (F.read_faults files.old) (F.read_faults files.new) result }
+    ensures writes { F.write_faults files.new ≡ F.write_faults files.old }
+{
+    let Some(found) = files.size(name)? else {
+        return Err(Stop::Refused(Refusal::NoFile(input)));
+    };
+    if limit_of(input) < found {
+        return Err(Stop::Refused(Refusal::Limit { input, found }));
+    }
+    Ok(read_whole(alloc, files, name, found)?)
+}
+
+/// What an answer file holds.
+pub fn read_answer<'a>(bytes: &'a [u8]) -> Result<Answer<'a>, Refusal>
+    ensures { Settles (λ answer. answer) result (well_formed AnswerInput (answer_of bytes.now)) }
+{
+    match Answer::read(bytes) {
+        Ok(answer) => Ok(answer),
+        Err(place) => Err(Refusal::Malformed(Input::Answer, place)),
+    }
+}
+
+/// What an authenticator file holds.
+pub fn read_auths<'a>(bytes: &'a [u8]) -> Result<Auths<'a>, Refusal>
+    ensures { Settles (λ auths. auths) result (well_formed AuthsInput (auths_of bytes.now)) }
+{
+    match Auths::read(bytes) {
+        Ok(auths) => Ok(auths),
+        Err(place) => Err(Refusal::Malformed(Input::Auths, place)),
+    }
+}
