@@ -1,7 +1,6 @@
 //! How the program ends: with a status and a text for the sink.
 
-ghost use Rattle.std.specs.Prelude.{◌≡◌, IfOk};
-ghost use Rattle.nr_spec_history.specs.Report.{conflict_line};
+ghost use Rattle.std.specs.Prelude.{◌≡◌, ◌⊎◌, IfOk};
 ghost use Rattle.netreview.specs.Command.{usage_ending, read_fault_ending, memory_ending, refusal_ending};
 ghost use Rattle.netreview.specs.Views.{refusal_of};
 ghost use Rattle.netreview.specs.Endings.{fixed_of, ending_of};
@@ -56,7 +55,8 @@ pub fn out_of_memory() -> Fixed
 
 #[tactic(auto, unfolding(crate::specs::Command::refusal_ending))]
 fn fact_ending(alloc: Global, fact: Fact) -> Result<Ending, AllocError>
-    ensures { IfOk result (λ e. ending_of e ≡ refusal_ending (refusal_of (Refusal.Refused fact))) }
+    ensures value { IfOk result (λ e. ending_of e ≡ refusal_ending (refusal_of (Refusal.Refused fact))) }
+    ensures status { IfOk result (λ e. e.status ≡ 7) }
 {
     let text = match fact {
         Fact::Form => String::from_str(alloc, "refused form answer\n")?,
@@ -73,7 +73,8 @@ fn fact_ending(alloc: Global, fact: Fact) -> Result<Ending, AllocError>
 /// The status and the line of a refusal.
 #[tactic(auto, unfolding(crate::specs::Command::refusal_ending))]
 pub fn refused(alloc: Global, refusal: Refusal) -> Result<Ending, AllocError>
-    ensures { IfOk result (λ e. ending_of e ≡ refusal_ending (refusal_of refusal)) }
+    ensures value { IfOk result (λ e. ending_of e ≡ refusal_ending (refusal_of refusal)) }
+    ensures status { IfOk result (λ e. (e.status ≡ 3) ⊎ (e.status ≡ 7)) }
 {
     match refusal {
         Refusal::NoFile(input) => {

@@ -7,6 +7,7 @@ mod input;
 mod links;
 mod reading;
 mod refusal;
+mod run;
 mod words;
 
 fn main() {}

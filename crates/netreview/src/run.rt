@@ -1,0 +1,80 @@
+//! The top call: words in, a status out, and one text at the sink.
+
+ghost use Rattle.std.specs.Prelude.{◌≡◌, ◌≢◌, ◌≤◌, ◌⊎◌, map, None};
+ghost use Rattle.std.specs.String.{string_bytes};
+ghost use Rattle.nr_ports.specs.Ports.{Rose};
+ghost use Rattle.netreview.specs.Words.{request_in};
+ghost use Rattle.netreview.specs.Command.{Ending};
+ghost use Rattle.netreview.specs.Endings.{fixed_of};
+ghost use Rattle.netreview.specs.Running.{MayEnd, Delivers};
+
+use crate::audit::audit;
+use crate::ending::{Fixed, out_of_memory, read_fault, refused, usage};
+use crate::refusal::Stop;
+use crate::words::request_from;
+use nr_ports::{Files, Sink, WriteFault, write_all};
+use std::alloc::Global;
+
+// Offers a text to the sink, and answers the status: 5 where the sink failed, 6 where it found no memory.
+fn deliver<S: Sink>(out: &mut S, status: u8, text: &str) -> u8
+    ensures delivers { Delivers (S.taken out.old) (S.taken out.new) (record { status = status; text = text.now }) result }
+    ensures fault { result ≡ 5 → status ≢ 5 → Rose (S.faults out.old) (S.faults out.new) }
+    ensures same { result ≢ 5 → S.faults out.new ≡ S.faults out.old }
+    ensures status { (result ≡ status) ⊎ ((result ≡ 5) ⊎ (result ≡ 6)) }
+{
+    match write_all(out, text.as_bytes()) {
+        Ok(()) => status,
+        Err(WriteFault::Failed) => 5,
+        Err(WriteFault::Memory) => 6,
+    }
+}
+
+fn deliver_fixed<S: Sink>(out: &mut S, ending: Fixed) -> u8
+    ensures delivers { Delivers (S.taken out.old) (S.taken out.new) (fixed_of ending) result }
+    ensures fault { result ≡ 5 → ending.status ≢ 5 → Rose (S.faults out.old) (S.faults out.new) }
+    ensures same { result ≢ 5 → S.faults out.new ≡ S.faults out.old }
+    ensures status { (result ≡ ending.status) ⊎ ((result ≡ 5) ⊎ (result ≡ 6)) }
+{
+    deliver(out, ending.status, ending.text)
+}
+
+/// Runs the command that the words after the program's name ask for, and answers the status.
+pub fn run<F: Files, S: Sink>(
+    alloc: Global,
+    words: &[String],
+    files: &mut F,
+    out: &mut S,
+) -> u8
+    // One ending is offered: the one that the words and the files give, where these tell what they hold,
+    // or that of a read fault, or that of want of memory. The sink has it whole, unless it failed.
+    ensures ends { (e : Ending) × MayEnd (F.holds files.old) (map string_bytes words.now) e × Delivers (S.taken out.old) (S.taken out.new) e result }
+
+    // The words alone decide on usage.
+    ensures usage { result ≡ 2 → request_in (map string_bytes words.now) ≡ None }
+    ensures not_usage { request_in (map string_bytes words.now) ≡ None → (result ≡ 2) ⊎ ((result ≡ 5) ⊎ (result ≡ 6)) }
+
+    // Each fault has its cause.
+    ensures read_fault { result ≡ 4 → Rose (F.read_faults files.old) (F.read_faults files.new) }
+    ensures write_fault { result ≡ 5 → Rose (S.faults out.old) (S.faults out.new) }
+    ensures sink { result ≢ 5 → S.faults out.new ≡ S.faults out.old }
+
+    // A fault is never passed over: every other status comes only where no count rose.
+    ensures no_fault { result ≢ 4 → result ≢ 5 → result ≢ 6 → F.read_faults files.new ≡ F.read_faults files.old }
+
+    // No file changes.
+    ensures same { F.holds files.new ≡ F.holds files.old }
+    ensures writes { F.write_faults files.new ≡ F.write_faults files.old }
+{
+    let Some(request) = request_from(words) else {
+        return deliver_fixed(out, usage());
+    };
+    match audit(alloc, files, &request) {
+        Ok(ending) => deliver(out, ending.status, ending.text.as_str()),
+        Err(Stop::ReadFault) => deliver_fixed(out, read_fault()),
+        Err(Stop::Memory) => deliver_fixed(out, out_of_memory()),
+        Err(Stop::Refused(refusal)) => match refused(alloc, refusal) {
+            Ok(ending) => deliver(out, ending.status, ending.text.as_str()),
+            Err(_) => deliver_fixed(out, out_of_memory()),
+        },
+    }
+}
