@@ -1,5 +1,5 @@
 -- What files and a sink stand for: what each file holds, what a sink has taken, and how faults are counted.
-use Rattle.std.specs.Prelude.{◌≡◌, ℕ, ◌+◌, ◌-◌, ◌^◌, ◌≤◌, ◌==◌, min, Bool, List, [], ◌∷◌, ◌++◌, length, take, drop, Option, None, Some, unwrap_or, Result, Ok, Err, if◌then◌else◌}
+use Rattle.std.specs.Prelude.{◌≡◌, ◌≢◌, ℕ, ◌+◌, ◌-◌, ◌^◌, ◌≤◌, ◌==◌, min, max, Bool, List, [], ◌∷◌, ◌++◌, length, take, drop, Option, None, Some, IsSome, unwrap_or, Result, Ok, Err, if◌then◌else◌}
 use Rattle.std.specs.List.{list_any}
 use Rattle.std.specs.Str.{bytes_eq}
 
@@ -31,6 +31,41 @@ read_count bytes at room = min room (length bytes - at)
 -- a buffer with the first n bytes from a place on in front, else as it was
 abbrev pub filled : List ℕ → ℕ → ℕ → List ℕ → List ℕ
 filled bytes at n buffer = take n (drop at bytes) ++ drop n buffer
+
+-- ---- what a call that writes does to a file
+
+-- these bytes from a place on, over what is there and past the end
+abbrev pub written : ℕ → List ℕ → List ℕ → List ℕ
+written at from bytes = take at bytes ++ from ++ drop (at + length from) bytes
+
+-- no more than len bytes. A cut to 0 makes an absent file empty; to more it leaves it absent.
+abbrev pub cut_to : ℕ → Option (List ℕ) → Option (List ℕ)
+cut_to len (Some bytes) = Some (take len bytes)
+cut_to len None = if len == 0 then Some [] else None
+
+-- after a write of n bytes that failed: any bytes in its range, and some length from the old one to its end
+pub record TornWrite (at n : ℕ) (old new : List ℕ) : Type 0 where
+  pub before : take at new ≡ take at old
+  pub behind : drop (at + n) new ≡ drop (at + n) old
+  pub no_shorter : length old ≤ length new
+  pub no_longer : length new ≤ max (length old) (at + n)
+
+-- after a cut that failed: any bytes from its length on, and no more than before
+pub record TornCut (len : ℕ) (old new : List ℕ) : Type 0 where
+  pub before : take len new ≡ take len old
+  pub no_longer : length new ≤ length old
+
+-- A file that was there is still there, and its bytes have gone that step; an absent one counts as empty.
+pub record Torn (step : List ℕ → List ℕ → Type 0) (old new : Option (List ℕ)) : Type 0 where
+  pub there : IsSome old → IsSome new
+  pub bytes : step (bytes_of old) (bytes_of new)
+
+-- The contents are still told: this name holds what has P, and every other name what it held.
+pub record ChangesOnly (held : Contents) (name : List ℕ) (P : Option (List ℕ) → Type 0) (new : Option Contents) : Type 0 where
+  pub now : Contents
+  pub told : new ≡ Some now
+  pub named : P (now name)
+  pub others : (other : List ℕ) → other ≢ name → now other ≡ held other
 
 -- ---- in memory
 
@@ -75,6 +110,11 @@ held_in (file ∷ others) name = if bytes_eq file.name name then Some file.bytes
 abbrev pub with_file : List ℕ → List ℕ → List NamedBytes → List NamedBytes
 with_file name bytes [] = record { name = name; bytes = bytes } ∷ []
 with_file name bytes (file ∷ others) = if bytes_eq file.name name then record { name = file.name; bytes = bytes } ∷ others else file ∷ with_file name bytes others
+
+-- what a name is to hold in the place of what it held; one that is to be absent is left out of it
+abbrev pub with_held : List ℕ → Option (List ℕ) → List NamedBytes → List NamedBytes
+with_held name (Some bytes) files = with_file name bytes files
+with_held name None files = files
 
 -- other files, and nothing else changed
 abbrev pub holding : List NamedBytes → MemoryFiles → MemoryFiles

@@ -1,6 +1,6 @@
 -- What this crate's errors say of the counts and of what was taken.
 use Rattle.std.specs.Prelude.{◌≡◌, ℕ, List, ◌++◌, take, Option, Some, Result, Ok, Err}
-use Rattle.nr_ports.specs.Ports.{Rose}
+use Rattle.nr_ports.specs.Ports.{Rose, raised}
 use Rattle.nr_ports.specs.declared.fault.WriteFault.{WriteFault}
 use Rattle.nr_ports.specs.declared.fault.WriteFault.TheVariants as write
 use Rattle.nr_ports.specs.declared.fault.ReadFault.{ReadFault}
@@ -11,6 +11,11 @@ abbrev pub CountsWriteFaults : {A : Type 0} → ℕ → ℕ → Result A WriteFa
 CountsWriteFaults before now (Ok x) = now ≡ before
 CountsWriteFaults before now (Err write.Failed) = Rose before now
 CountsWriteFaults before now (Err write.Memory) = now ≡ before
+
+-- a count of write faults after a call: one more where it failed
+abbrev pub faults_with : {A : Type 0} → Result A WriteFault → ℕ → ℕ
+faults_with (Err write.Failed) faults = raised faults
+faults_with _ faults = faults
 
 -- The count of read faults rose exactly where a call failed.
 abbrev pub CountsReadFaults : {A : Type 0} → ℕ → ℕ → Result A ReadFault → Type 0

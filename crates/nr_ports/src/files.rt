@@ -1,9 +1,10 @@
 //! Files as the program sees them.
 
-ghost use Rattle.std.specs.Prelude.{◌≡◌, ◌≤◌, ℕ, length, option_map, Option, Some, IfOk};
-ghost use Rattle.nr_ports.specs.Ports.{Contents, bytes_of, read_count, filled, CountsFaults};
+ghost use Rattle.std.specs.Prelude.{◌≡◌, ◌≤◌, ℕ, length, option_map, Option, None, Some, IfOk, OnOk, IsErrOf};
+ghost use Rattle.nr_ports.specs.Ports.{Contents, bytes_of, read_count, filled, written, cut_to, Torn, TornWrite, TornCut, ChangesOnly, CountsFaults};
+ghost use Rattle.nr_ports.specs.Views.{CountsWriteFaults};
 
-use crate::fault::Failed;
+use crate::fault::{Failed, WriteFault};
 
 /// Files by name. What a file holds is known only where the files tell it; the counts of faults are
 /// always known, and they never fall.
@@ -36,4 +37,35 @@ pub trait Files {
         ensures same { holds self.new ≡ holds self.old }
         ensures cause { CountsFaults (read_faults self.old) (read_faults self.new) result }
         ensures writes { write_faults self.new ≡ write_faults self.old };
+
+    /// Writes bytes from a place on, over what is there and past the end. An absent name is made. After
+    /// `Failed` the range may hold any bytes.
+    fn write_at(&mut self, name: &str, at: u64, from: &[u8]) -> Result<(), WriteFault>
+        requires { (held : Contents) → holds self.old ≡ Some held → at ≤ length (bytes_of (held name.now)) }
+        ensures written { (held : Contents) → holds self.old ≡ Some held
+            → OnOk result (ChangesOnly held name.now (λ file. file ≡ Some (written at from.now (bytes_of (held name.now)))) (holds self.new)) }
+        ensures torn { (held : Contents) → holds self.old ≡ Some held → IsErrOf result WriteFault.Failed
+            → ChangesOnly held name.now (Torn (TornWrite at (length from.now)) (held name.now)) (holds self.new) }
+        ensures memory { IsErrOf result WriteFault.Memory → holds self.new ≡ holds self.old }
+        ensures untold { holds self.old ≡ None → holds self.new ≡ None }
+        ensures cause { CountsWriteFaults (write_faults self.old) (write_faults self.new) result }
+        ensures reads { read_faults self.new ≡ read_faults self.old };
+
+    /// Shortens a file to a length, and never lengthens it. A cut to 0 makes an absent name empty, and one
+    /// to more leaves it absent. After `Failed` the range from the length on may hold any bytes.
+    fn cut(&mut self, name: &str, len: u64) -> Result<(), WriteFault>
+        ensures cut { (held : Contents) → holds self.old ≡ Some held
+            → OnOk result (ChangesOnly held name.now (λ file. file ≡ cut_to len (held name.now)) (holds self.new)) }
+        ensures torn { (held : Contents) → holds self.old ≡ Some held → IsErrOf result WriteFault.Failed
+            → ChangesOnly held name.now (Torn (TornCut len) (held name.now)) (holds self.new) }
+        ensures memory { IsErrOf result WriteFault.Memory → holds self.new ≡ holds self.old }
+        ensures untold { holds self.old ≡ None → holds self.new ≡ None }
+        ensures cause { CountsWriteFaults (write_faults self.old) (write_faults self.new) result }
+        ensures reads { read_faults self.new ≡ read_faults self.old };
+
+    /// Puts what a file holds on the disk. Nothing of what a read gives changes.
+    fn sync(&mut self, name: &str) -> Result<(), WriteFault>
+        ensures same { holds self.new ≡ holds self.old }
+        ensures cause { CountsWriteFaults (write_faults self.old) (write_faults self.new) result }
+        ensures reads { read_faults self.new ≡ read_faults self.old };
 }

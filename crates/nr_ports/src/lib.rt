@@ -8,6 +8,7 @@ mod files;
 mod mem_files;
 mod mem_sink;
 mod sink;
+mod stored;
 mod whole;
 
 pub use fault::{Failed, ReadFault, WriteFault};

@@ -1,71 +1,16 @@
 //! Files in memory.
 
-ghost use Rattle.std.specs.Prelude.{◌≡◌, [], Some, option_map, length, is_err, IfOk, OnOk, OnErr};
-ghost use Rattle.std.specs.List.{position};
-ghost use Rattle.std.specs.Str.{bytes_eq};
-ghost use Rattle.nr_ports.specs.Ports.{Contents, NamedBytes, MemoryFiles, bytes_of, read_count, filled, held_in, with_file, holding, calling, listed, fails_next, after_reading};
+ghost use Rattle.std.specs.Prelude.{◌≡◌, ◌≤◌, ◌↔◌, [], Some, option_map, length, is_err, IsTrue, IsErr, IfOk, OnOk, OnErr, IsErrOf};
+ghost use Rattle.nr_ports.specs.Ports.{Contents, MemoryFiles, bytes_of, read_count, filled, written, cut_to, raised, held_in, with_file, with_held, holding, calling, listed, counted, fails_next, after_reading};
+ghost use Rattle.nr_ports.specs.Views.{faults_with};
 
 use crate::calls::Calls;
-use crate::fault::Failed;
+use crate::fault::{Failed, WriteFault};
 use crate::files::Files;
+use crate::stored::{File, copy_from, cut_in, find, make_room, place, write_in};
 use nr_bytes::Memory;
 use std::alloc::Global;
 use std::marker::Model;
-
-#[derive(Drop)]
-struct File {
-    name: String,
-    bytes: Vec<u8>,
-}
-
-impl Model for File {
-    ghost use Rattle.std.specs.Prelude.{string_bytes};
-    ghost use Rattle.nr_ports.specs.Ports.{NamedBytes};
-
-    ghost Value = { NamedBytes };
-
-    ghost view = { λ f. record { name = string_bytes f.name; bytes = f.bytes.items } };
-}
-
-impl File {
-    fn is_named(&self, name: &str) -> bool
-        ensures { result ≡ bytes_eq self.now.name name.now }
-    {
-        self.name.as_str() == name
-    }
-
-    fn bytes(&self) -> &[u8]
-        ensures { result.now ≡ self.now.bytes }
-    {
-        &self.bytes
-    }
-
-    fn replace(&mut self, bytes: Vec<u8>)
-        ensures { self.new ≡ record { name = self.old.name; bytes = bytes.items } }
-    {
-        self.bytes = bytes;
-    }
-}
-
-fn place_of(files: &[File], name: &str) -> Option<usize>
-    ensures { result ≡ position (λ file. bytes_eq file.name name.now) files.now }
-{
-    files.iter().position(|file| file.is_named(name))
-}
-
-// The bytes that fit from a place on.
-fn copy_from(bytes: &[u8], at: u64, into: &mut [u8]) -> usize
-    ensures count { result ≡ read_count bytes.now at (length into.old) }
-    ensures bytes { into.new ≡ filled bytes.now at result into.old }
-{
-    if at >= bytes.len() as u64 {
-        return 0;
-    }
-    let rest = &bytes[at as usize..];
-    let n = into.len().min(rest.len());
-    into[..n].copy_from_slice(&rest[..n]);
-    n
-}
 
 /// Files in memory, which tell what they hold. Calls of the trait are numbered from 1, and those whose
 /// numbers are listed fail, each at the cost of one fault.
@@ -106,24 +51,14 @@ impl MemFiles {
         ensures memory { OnErr result (self.new ≡ self.old) }
     {
         let bytes = Vec::from_slice(self.alloc, bytes)?;
-        match place_of(&self.files, name) {
-            Some(place) => self.files[place].replace(bytes),
-            None => {
-                let name = String::from_str(self.alloc, name)?;
-                self.files.push(File { name, bytes })?;
-            }
-        }
-        Ok(())
+        place(self.alloc, &mut self.files, name, bytes)
     }
 
     /// The bytes under a name. `None` exactly where it is absent.
     pub fn bytes(&self, name: &str) -> Option<&[u8]>
         ensures { option_map (λ bytes. bytes.now) result ≡ held_in self.now.files name.now }
     {
-        match place_of(&self.files, name) {
-            Some(place) => Some(self.files[place].bytes()),
-            None => None,
-        }
+        find(&self.files, name)
     }
 
     /// Lists a number of a call that is to fail. `Memory` leaves all as it was.
@@ -153,6 +88,15 @@ impl MemFiles {
         ensures { result ≡ self.now.write_faults }
     {
         self.write_faults
+    }
+
+    // Counts a call that writes as one that failed.
+    fn fail_writing(&mut self) -> WriteFault
+        ensures fault { result ≡ WriteFault.Failed }
+        ensures after { self.new ≡ record { files = self.old.files; calls = self.old.calls; read_faults = self.old.read_faults; write_faults = raised self.old.write_faults } }
+    {
+        self.write_faults = self.write_faults.saturating_add(1);
+        WriteFault::Failed
     }
 
     // Counts a call that reads, and its fault if it is to fail.
@@ -196,5 +140,57 @@ impl Files for MemFiles {
         self.begin_reading()?;
         let bytes = self.bytes(name).unwrap_or(&[]);
         Ok(copy_from(bytes, at, into))
+    }
+
+    // It fails only where its number is listed, and then leaves what it holds as it was. Room is made
+    // first, so that memory may run out in a listed call too.
+    fn write_at(&mut self, name: &str, at: u64, from: &[u8]) -> Result<(), WriteFault>
+        requires { at ≤ length (bytes_of (held_in self.old.files name.now)) }
+        ensures written { OnOk result (self.new.files ≡ with_file name.now (written at from.now (bytes_of (held_in self.old.files name.now))) self.old.files) }
+        ensures nothing { OnErr result (self.new.files ≡ self.old.files) }
+        ensures failed { IsErrOf result WriteFault.Failed → IsTrue (fails_next self.old.calls) }
+        ensures listed { IsTrue (fails_next self.old.calls) → IsErr result }
+        ensures counts { self.new.calls ≡ counted self.old.calls }
+        ensures writes { self.new.write_faults ≡ faults_with result self.old.write_faults }
+        ensures reads { self.new.read_faults ≡ self.old.read_faults }
+    {
+        let fails = self.calls.begin();
+        make_room(self.alloc, &mut self.files, name, at as usize, from)?;
+        if fails {
+            return Err(self.fail_writing());
+        }
+        write_in(self.alloc, &mut self.files, name, at as usize, from)?;
+        Ok(())
+    }
+
+    // It fails exactly where its number is listed, and then leaves what it holds as it was.
+    fn cut(&mut self, name: &str, len: u64) -> Result<(), WriteFault>
+        ensures cut { OnOk result (self.new.files ≡ with_held name.now (cut_to len (held_in self.old.files name.now)) self.old.files) }
+        ensures nothing { OnErr result (self.new.files ≡ self.old.files) }
+        ensures failed { IsErrOf result WriteFault.Failed ↔ IsTrue (fails_next self.old.calls) }
+        ensures counts { self.new.calls ≡ counted self.old.calls }
+        ensures writes { self.new.write_faults ≡ faults_with result self.old.write_faults }
+        ensures reads { self.new.read_faults ≡ self.old.read_faults }
+    {
+        if self.calls.begin() {
+            return Err(self.fail_writing());
+        }
+        cut_in(self.alloc, &mut self.files, name, len)?;
+        Ok(())
+    }
+
+    // It fails exactly where its number is listed, and wants no memory.
+    fn sync(&mut self, _name: &str) -> Result<(), WriteFault>
+        ensures same { self.new.files ≡ self.old.files }
+        ensures failed { IsErrOf result WriteFault.Failed ↔ IsTrue (fails_next self.old.calls) }
+        ensures memory { IsErrOf result WriteFault.Memory → ⊥ }
+        ensures counts { self.new.calls ≡ counted self.old.calls }
+        ensures writes { self.new.write_faults ≡ faults_with result self.old.write_faults }
+        ensures reads { self.new.read_faults ≡ self.old.read_faults }
+    {
+        if self.calls.begin() {
+            return Err(self.fail_writing());
+        }
+        Ok(())
     }
 }

@@ -1,4 +1,4 @@
-use Rattle.std.proofs.Common.{◌≡◌, ℕ, ◌-◌, ◌≤◌, List, length, take, Some}
+use Rattle.std.proofs.Common.{◌≡◌, ◌-◌, ◌≤◌, length, take, Some}
 use Rattle.nr_ports.specs.Ports.{Contents, bytes_of}
 use Rattle.nr_ports.proofs.whole.fill.Given as goal
 
