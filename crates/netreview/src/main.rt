@@ -1,3 +1,4 @@
+//! `netreview` keeps and audits accountable logs of the BGP messages of a network.
 #![tactic(auto)]
 
 mod audit;
@@ -8,6 +9,7 @@ mod links;
 mod reading;
 mod refusal;
 mod run;
+mod system;
 mod words;
 
 fn main() {}
