@@ -180,7 +180,7 @@ impl Files for MemFiles {
     }
 
     // It fails exactly where its number is listed, and wants no memory.
-    fn sync(&mut self, name: &str) -> Result<(), WriteFault>
+    fn sync(&mut self, _name: &str) -> Result<(), WriteFault>
         ensures same { self.new.files ≡ self.old.files }
         ensures failed { IsErrOf result WriteFault.Failed ↔ IsTrue (fails_next self.old.calls) }
         ensures memory { IsErrOf result WriteFault.Memory → ⊥ }
@@ -188,7 +188,6 @@ impl Files for MemFiles {
         ensures writes { self.new.write_faults ≡ faults_with result self.old.write_faults }
         ensures reads { self.new.read_faults ≡ self.old.read_faults }
     {
-        let _ = name;
         if self.calls.begin() {
             return Err(self.fail_writing());
         }
