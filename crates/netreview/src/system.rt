@@ -1,7 +1,6 @@
 //! The system's files and standard output. They tell no content: their contracts are about faults alone.
 
-ghost use Rattle.std.specs.Prelude.{◌≡◌, ◌≤◌, length, IfOk};
-ghost use Rattle.nr_ports.specs.Ports.{raised};
+ghost use Rattle.std.specs.Prelude.{◌≡◌, ◌≤◌, length, IfOk, None};
 
 use nr_ports::{Failed, Files, Sink, WriteFault};
 use std::alloc::Global;
@@ -68,7 +67,10 @@ impl<'a, R: Disk> SystemFiles<'a, R> {
     }
 
     // Opens a file for reading, if it isn't the one that is open.
-    fn open(&mut self, name: &str) -> io::Result<()> {
+    fn open(&mut self, name: &str) -> io::Result<()>
+        ensures reads { self.new.read_faults ≡ self.old.read_faults }
+        ensures writes { self.new.write_faults ≡ self.old.write_faults }
+    {
         if let Some(opened) = &self.opened {
             if opened.name.as_str() == name {
                 return Ok(());
@@ -81,11 +83,166 @@ impl<'a, R: Disk> SystemFiles<'a, R> {
         Ok(())
     }
 
-    fn len_of(&mut self, name: &str) -> io::Result<u64> {
-        self.open(name)?;
+    // The size of a file, or none where the name is absent.
+    fn counted(&mut self, name: &str) -> io::Result<Option<u64>>
+        ensures reads { self.new.read_faults ≡ self.old.read_faults }
+        ensures writes { self.new.write_faults ≡ self.old.write_faults }
+    {
+        self.opened = None;
+        match self.open(name) {
+            Ok(()) => {}
+            Err(e) if e.kind() == ErrorKind::NotFound => return Ok(None),
+            Err(e) => return Err(e),
+        }
         match &self.opened {
-            None => Err(io::Error::from(ErrorKind::NotFound)),
-            Some(opened) => Ok(opened.file.metadata()?.len()),
+            None => Ok(None),
+            Some(opened) => Ok(Some(opened.file.metadata()?.len())),
+        }
+    }
+
+    fn read_from(&mut self, name: &str, at: u64, into: &mut [u8]) -> io::Result<usize>
+        ensures within { IfOk result (λ n. n ≤ length into.old) }
+        ensures reads { self.new.read_faults ≡ self.old.read_faults }
+        ensures writes { self.new.write_faults ≡ self.old.write_faults }
+    {
+        match self.open(name) {
+            Ok(()) => {}
+            Err(e) if e.kind() == ErrorKind::NotFound => return Ok(0),
+            Err(e) => return Err(e),
+        }
+        match &mut self.opened {
+            None => Ok(0),
+            Some(opened) => {
+                opened.file.seek(SeekFrom::Start(at))?;
+                read_full(&mut opened.file, into)
+            }
+        }
+    }
+
+    // A file that is open for writing, made where it is absent.
+    fn writable(&self, name: &str) -> io::Result<R::File> {
+        OpenOptions::new()
+            .write(true)
+            .create(true)
+            .truncate(false)
+            .open(self.rt, name)
+    }
+
+    fn write_from(&self, name: &str, at: u64, from: &[u8]) -> io::Result<()> {
+        let mut file = self.writable(name)?;
+        file.seek(SeekFrom::Start(at))?;
+        write_full(&mut file, from)
+    }
+
+    // A cut never lengthens, and one to more than 0 makes no file.
+    fn cut_down(&self, name: &str, len: u64) -> io::Result<()> {
+        if len == 0 {
+            return self.writable(name)?.set_len(0);
+        }
+        match OpenOptions::new().write(true).open(self.rt, name) {
+            Ok(file) => {
+                if len < file.metadata()?.len() {
+                    file.set_len(len)?;
+                }
+                Ok(())
+            }
+            Err(e) if e.kind() == ErrorKind::NotFound => Ok(()),
+            Err(e) => Err(e),
+        }
+    }
+
+    fn sync_down(&self, name: &str) -> io::Result<()> {
+        match fs::open(self.rt, name) {
+            Ok(file) => file.sync_all(),
+            Err(e) if e.kind() == ErrorKind::NotFound => Ok(()),
+            Err(e) => Err(e),
+        }
+    }
+}
+
+impl<'a, R: Disk> Files for SystemFiles<'a, R> {
+    ghost holds = { λ _. None };
+
+    ghost read_faults = { λ s. s.read_faults };
+
+    ghost write_faults = { λ s. s.write_faults };
+
+    fn size(&mut self, name: &str) -> Result<Option<u64>, Failed> {
+        match self.counted(name) {
+            Ok(size) => Ok(size),
+            Err(_) => {
+                self.read_faults = self.read_faults.saturating_add(1);
+                Err(Failed)
+            }
+        }
+    }
+
+    fn read_at(&mut self, name: &str, at: u64, into: &mut [u8]) -> Result<usize, Failed> {
+        match self.read_from(name, at, into) {
+            Ok(n) => Ok(n),
+            Err(_) => {
+                self.read_faults = self.read_faults.saturating_add(1);
+                Err(Failed)
+            }
+        }
+    }
+
+    fn write_at(&mut self, name: &str, at: u64, from: &[u8]) -> Result<(), WriteFault> {
+        match self.write_from(name, at, from) {
+            Ok(()) => Ok(()),
+            Err(_) => {
+                self.write_faults = self.write_faults.saturating_add(1);
+                Err(WriteFault::Failed)
+            }
+        }
+    }
+
+    fn cut(&mut self, name: &str, len: u64) -> Result<(), WriteFault> {
+        match self.cut_down(name, len) {
+            Ok(()) => Ok(()),
+            Err(_) => {
+                self.write_faults = self.write_faults.saturating_add(1);
+                Err(WriteFault::Failed)
+            }
+        }
+    }
+
+    fn sync(&mut self, name: &str) -> Result<(), WriteFault> {
+        match self.sync_down(name) {
+            Ok(()) => Ok(()),
+            Err(_) => {
+                self.write_faults = self.write_faults.saturating_add(1);
+                Err(WriteFault::Failed)
+            }
+        }
+    }
+}
+
+/// Standard output, or whatever takes the program's text.
+#[derive(Drop)]
+pub struct Output<W: Write + Drop> {
+    writer: W,
+    faults: u64,
+}
+
+impl<W: Write + Drop> Output<W> {
+    pub fn new(writer: W) -> Output<W> {
+        Output { writer, faults: 0 }
+    }
+}
+
+impl<W: Write + Drop> Sink for Output<W> {
+    ghost taken = { λ _. None };
+
+    ghost faults = { λ s. s.faults };
+
+    fn write(&mut self, piece: &[u8]) -> Result<usize, WriteFault> {
+        match self.writer.write(piece) {
+            Ok(n) if 0 < n || piece.is_empty() => Ok(n),
+            _ => {
+                self.faults = self.faults.saturating_add(1);
+                Err(WriteFault::Failed)
+            }
         }
     }
 }
