@@ -4,6 +4,7 @@
 
 mod command;
 mod grammar;
+pub mod laws;
 mod reading;
 
 pub use grammar::{Grammar, OptionRule, Values};
