@@ -8,7 +8,7 @@ use Rattle.nr_spec_log.specs.Answer.{AnswerFile, answer_of}
 use Rattle.nr_spec_history.specs.Conflicts.{Period}
 use Rattle.nr_spec_history.specs.Report.{Fact, Form, Head, Short, outcome, line, report_text}
 use Rattle.nr_ports.specs.Ports.{Contents}
-use Rattle.netreview.specs.Words.{Request, request_in}
+use Rattle.netreview.specs.Words.{AuditRequest, Request, Audit, request_in}
 
 -- ---- input files
 
@@ -53,7 +53,7 @@ judged (Ok value) = Ok value
 judged (Err fact) = Err (Refused fact)
 
 -- the first refusal, or the conflicts
-unfoldable pub audit_of : Contents → Request → Result (List Authenticator) Refusal
+unfoldable pub audit_of : Contents → AuditRequest → Result (List Authenticator) Refusal
 audit_of held q = do
   answer_bytes ← present AnswerInput (held q.answer)
   answer ← well_formed AnswerInput (answer_of answer_bytes)
@@ -107,7 +107,7 @@ memory_ending = record { status = 6; text = line (codes "memory" ∷ []) }
 
 abbrev pub answered : Contents → Option Request → Ending
 answered held None = usage_ending
-answered held (Some q) = ended (concluded (audit_of held q))
+answered held (Some (Audit q)) = ended (concluded (audit_of held q))
 
 -- what the words and the files give
 abbrev pub run_of : Contents → List (List ℕ) → Ending

@@ -1,13 +1,13 @@
 -- What a run may answer, and what the sink has of it.
-use Rattle.std.specs.Prelude.{◌≡◌, ℕ, ◌⊎◌, List, ◌++◌, Option, None, Some}
+use Rattle.std.specs.Prelude.{◌≡◌, ℕ, ◌⊎◌, List, ◌++◌, Option, Some}
 use Rattle.nr_ports.specs.Ports.{Contents}
 use Rattle.nr_ports.specs.Views.{TookSome}
-use Rattle.netreview.specs.Command.{Ending, run_of, read_fault_ending, memory_ending}
+use Rattle.netreview.specs.Command.{Ending, read_fault_ending, memory_ending}
 
 -- The ending is that of a read fault, or that of want of memory, or, where the files tell what they hold,
--- the one that the words and the files give.
-abbrev pub MayEnd : Option Contents → List (List ℕ) → Ending → Type 0
-MayEnd told words e = (e ≡ read_fault_ending) ⊎ ((e ≡ memory_ending) ⊎ ((held : Contents) → told ≡ Some held → e ≡ run_of held words))
+-- the one that is given by what they hold.
+abbrev pub MayEnd : Option Contents → (Contents → Ending) → Ending → Type 0
+MayEnd told given e = (e ≡ read_fault_ending) ⊎ ((e ≡ memory_ending) ⊎ ((held : Contents) → told ≡ Some held → e ≡ given held))
 
 -- the sink took the whole text behind what it had
 abbrev pub TookAll : Option (List ℕ) → Option (List ℕ) → List ℕ → Type 0

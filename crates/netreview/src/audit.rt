@@ -8,7 +8,7 @@ ghost use Rattle.nr_spec_history.specs.Report.{conflict_line, outcome};
 ghost use Rattle.nr_ports.specs.Ports.{Contents};
 ghost use Rattle.netreview.specs.Command.{audit_of, concluded, judged, report_ending};
 ghost use Rattle.netreview.specs.Views.{Decides, CountsReads};
-ghost use Rattle.netreview.specs.Requests.{period_of, request_of};
+ghost use Rattle.netreview.specs.Requests.{audit_request_of, period_of};
 ghost use Rattle.netreview.specs.Endings.{ending_of, Reports};
 
 use crate::conflicts::conflict_lines;
@@ -17,7 +17,8 @@ use crate::input::Input;
 use crate::links::link_entries;
 use crate::reading::{read_answer, read_auths, read_input};
 use crate::refusal::{Fact, Refusal, Stop};
-use crate::words::{Period, Request};
+use crate::numbers::Period;
+use crate::request::AuditRequest;
 use nr_answer::{Answer, Auths};
 use nr_ports::Files;
 use std::alloc::{AllocError, Global};
@@ -76,9 +77,9 @@ fn judge(
 pub fn audit<F: Files>(
     alloc: Global,
     files: &mut F,
-    request: &Request<'_>,
+    request: &AuditRequest<'_>,
 ) -> Result<Ending, Stop>
-    ensures value { (held : Contents) → F.holds files.old ≡ Some held → Decides ending_of result (concluded (audit_of held (request_of request.now))) }
+    ensures value { (held : Contents) → F.holds files.old ≡ Some held → Decides ending_of result (concluded (audit_of held (audit_request_of request.now))) }
     ensures status { IfOk result (λ e. e.status ≤ 1) }
     ensures same { F.holds files.new ≡ F.holds files.old }
     ensures cause { CountsReads (F.read_faults files.old) (F.read_faults files.new) result }

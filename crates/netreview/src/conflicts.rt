@@ -10,7 +10,7 @@ ghost use Rattle.netreview.specs.Links.{links_in, IsNumbered};
 ghost use Rattle.netreview.specs.Requests.{period_of};
 
 use crate::links::{Links, is_entry_stated};
-use crate::words::Period;
+use crate::numbers::Period;
 use nr_answer::{Auth, Auths};
 use std::alloc::{AllocError, Global};
 

@@ -6,11 +6,13 @@ mod conflicts;
 mod ending;
 mod input;
 mod links;
+mod numbers;
 mod reading;
 mod refusal;
+mod request;
 mod run;
 mod system;
-mod words;
+
 
 #[cfg(test)]
 mod tests;

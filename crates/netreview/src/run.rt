@@ -4,14 +4,16 @@ ghost use Rattle.std.specs.Prelude.{◌≡◌, ◌≢◌, ◌≤◌, ◌⊎◌, 
 ghost use Rattle.std.specs.String.{string_bytes};
 ghost use Rattle.nr_ports.specs.Ports.{Rose};
 ghost use Rattle.netreview.specs.Words.{request_in};
-ghost use Rattle.netreview.specs.Command.{Ending};
+ghost use Rattle.netreview.specs.Command.{Ending, audit_of, concluded, ended, run_of};
+ghost use Rattle.netreview.specs.Requests.{audit_request_of};
 ghost use Rattle.netreview.specs.Endings.{fixed_of};
 ghost use Rattle.netreview.specs.Running.{MayEnd, Delivers};
 
 use crate::audit::audit;
 use crate::ending::{Fixed, out_of_memory, read_fault, refused, usage};
 use crate::refusal::Stop;
-use crate::words::request_from;
+use crate::request::{AuditRequest, Request, request_from};
+use nr_bytes::Memory;
 use nr_ports::{Files, Sink, WriteFault, write_all};
 use std::alloc::Global;
 
@@ -38,6 +40,34 @@ fn deliver_fixed<S: Sink>(out: &mut S, ending: Fixed) -> u8
     deliver(out, ending.status, ending.text)
 }
 
+// Offers what an audit gives.
+fn run_audit<F: Files, S: Sink>(
+    alloc: Global,
+    request: &AuditRequest<'_>,
+    files: &mut F,
+    out: &mut S,
+) -> u8
+    ensures ends { (e : Ending) × MayEnd (F.holds files.old) (λ held. ended (concluded (audit_of held (audit_request_of request.now)))) e
+        × Delivers (S.taken out.old) (S.taken out.new) e result }
+    ensures no_usage { result ≢ 2 }
+    ensures read_fault { result ≡ 4 → Rose (F.read_faults files.old) (F.read_faults files.new) }
+    ensures write_fault { result ≡ 5 → Rose (S.faults out.old) (S.faults out.new) }
+    ensures sink { result ≢ 5 → S.faults out.new ≡ S.faults out.old }
+    ensures no_fault { result ≢ 4 → result ≢ 5 → result ≢ 6 → F.read_faults files.new ≡ F.read_faults files.old }
+    ensures same { F.holds files.new ≡ F.holds files.old }
+    ensures writes { F.write_faults files.new ≡ F.write_faults files.old }
+{
+    match audit(alloc, files, request) {
+        Ok(ending) => deliver(out, ending.status, ending.text.as_str()),
+        Err(Stop::ReadFault) => deliver_fixed(out, read_fault()),
+        Err(Stop::Memory) => deliver_fixed(out, out_of_memory()),
+        Err(Stop::Refused(refusal)) => match refused(alloc, refusal) {
+            Ok(ending) => deliver(out, ending.status, ending.text.as_str()),
+            Err(_) => deliver_fixed(out, out_of_memory()),
+        },
+    }
+}
+
 /// Runs the command that the words after the program's name ask for, and answers the status.
 pub fn run<F: Files, S: Sink>(
     alloc: Global,
@@ -47,7 +77,8 @@ pub fn run<F: Files, S: Sink>(
 ) -> u8
     // One ending is offered: the one that the words and the files give, where these tell what they hold,
     // or that of a read fault, or that of want of memory. The sink has it whole, unless it failed.
-    ensures ends { (e : Ending) × MayEnd (F.holds files.old) (map string_bytes words.now) e × Delivers (S.taken out.old) (S.taken out.new) e result }
+    ensures ends { (e : Ending) × MayEnd (F.holds files.old) (λ held. run_of held (map string_bytes words.now)) e
+        × Delivers (S.taken out.old) (S.taken out.new) e result }
 
     // The words alone decide on usage.
     ensures usage { result ≡ 2 → request_in (map string_bytes words.now) ≡ None }
@@ -65,16 +96,9 @@ pub fn run<F: Files, S: Sink>(
     ensures same { F.holds files.new ≡ F.holds files.old }
     ensures writes { F.write_faults files.new ≡ F.write_faults files.old }
 {
-    let Some(request) = request_from(words) else {
-        return deliver_fixed(out, usage());
-    };
-    match audit(alloc, files, &request) {
-        Ok(ending) => deliver(out, ending.status, ending.text.as_str()),
-        Err(Stop::ReadFault) => deliver_fixed(out, read_fault()),
-        Err(Stop::Memory) => deliver_fixed(out, out_of_memory()),
-        Err(Stop::Refused(refusal)) => match refused(alloc, refusal) {
-            Ok(ending) => deliver(out, ending.status, ending.text.as_str()),
-            Err(_) => deliver_fixed(out, out_of_memory()),
-        },
+    match request_from(alloc, words) {
+        Err(Memory) => deliver_fixed(out, out_of_memory()),
+        Ok(None) => deliver_fixed(out, usage()),
+        Ok(Some(Request::Audit(request))) => run_audit(alloc, &request, files, out),
     }
 }

@@ -1,6 +1,6 @@
 use Rattle.std.proofs.Common.{sym, ◌∙◌}
 use Rattle.netreview.proofs.WordLemmas.{parse-decimal_word}
-use Rattle.netreview.proofs.words.value_of.Goals as goal
+use Rattle.netreview.proofs.numbers.value_of.Goals as goal
 
 pub unreachable-requires : goal.unreachable-requires
 unreachable-requires c =

@@ -1,0 +1,109 @@
+//! The commands: which words each takes, and what they ask for.
+
+ghost use Rattle.std.specs.Prelude.{◌≡◌, map, option_map, IfOk};
+ghost use Rattle.std.specs.String.{string_bytes};
+ghost use Rattle.nr_words.specs.Views.{given_by};
+ghost use Rattle.netreview.specs.Words.{audit_in, audit_request, request_in, value_at};
+ghost use Rattle.netreview.specs.Requests.{audit_request_of, request_of};
+
+use crate::numbers::{Period, number_of, period_from};
+use nr_bytes::Memory;
+use nr_words::{Grammar, OptionRule, Values, values_of};
+use std::alloc::Global;
+
+const AUDIT: Grammar = Grammar {
+    command: "audit",
+    options: &[
+        OptionRule {
+            name: "answer",
+            required: true,
+        },
+        OptionRule {
+            name: "auths",
+            required: true,
+        },
+        OptionRule {
+            name: "from",
+            required: true,
+        },
+        OptionRule {
+            name: "to",
+            required: true,
+        },
+    ],
+    files: false,
+};
+
+/// What `audit` is asked for: the names of two files, and a period.
+#[derive(Clone, Copy, Debug)]
+pub struct AuditRequest<'a> {
+    pub answer: &'a str,
+    pub auths: &'a str,
+    pub period: Period,
+}
+
+/// What the words ask for.
+#[derive(Clone, Copy, Debug)]
+pub enum Request<'a> {
+    Audit(AuditRequest<'a>),
+}
+
+// The value of the option at a place of the grammar.
+fn value_of<'a>(values: &Values<'a>, at: usize) -> Option<&'a str>
+    ensures { option_map (λ value. value.now) result ≡ value_at (given_by values.now) at }
+{
+    match values.options.get(at) {
+        Some(value) => *value,
+        None => None,
+    }
+}
+
+#[tactic(auto, unfolding(crate::specs::Words::audit_in))]
+fn audit_from<'a>(values: &Values<'a>) -> Option<AuditRequest<'a>>
+    ensures { option_map audit_request_of result ≡ audit_in (given_by values.now) }
+{
+    let answer = value_of(values, 0)?;
+    let auths = value_of(values, 1)?;
+    let from_word = value_of(values, 2)?;
+    let to_word = value_of(values, 3)?;
+    let from = number_of(from_word)?;
+    let to = number_of(to_word)?;
+    let period = period_from(from, to)?;
+    if answer == auths {
+        return None;
+    }
+    Some(AuditRequest {
+        answer,
+        auths,
+        period,
+    })
+}
+
+fn audit_words<'a>(alloc: Global, words: &'a [String]) -> Result<Option<Request<'a>>, Memory>
+    ensures { IfOk result (λ request. option_map request_of request ≡ audit_request (map string_bytes words.now)) }
+{
+    let Some(values) = values_of(alloc, &AUDIT, words)? else {
+        return Ok(None);
+    };
+    match audit_from(&values) {
+        None => Ok(None),
+        Some(audit) => Ok(Some(Request::Audit(audit))),
+    }
+}
+
+/// What the words ask for. `None` exactly where they aren't taken.
+#[tactic(auto, unfolding(crate::specs::Words::request_in))]
+pub fn request_from<'a>(
+    alloc: Global,
+    words: &'a [String],
+) -> Result<Option<Request<'a>>, Memory>
+    ensures { IfOk result (λ request. option_map request_of request ≡ request_in (map string_bytes words.now)) }
+{
+    let Some(command) = words.first() else {
+        return Ok(None);
+    };
+    if command.as_str() == "audit" {
+        return audit_words(alloc, words);
+    }
+    Ok(None)
+}
