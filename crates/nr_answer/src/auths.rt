@@ -3,7 +3,7 @@
 ghost use Rattle.std.specs.Prelude.{◌≡◌, option_map};
 ghost use Rattle.std.specs.Result.{result_err};
 ghost use Rattle.std.specs.Iterator.{YieldsFirstBy, item_count};
-ghost use Rattle.nr_spec_wire.specs.Reading.{Answers, fault, all_at};
+ghost use Rattle.nr_spec_wire.specs.Reading.{Answers, fault, all_rows_at};
 ghost use Rattle.nr_spec_log.specs.Authenticator.{auths_of, authenticator_at};
 ghost use Rattle.nr_bytes.specs.Views.{offset_of};
 ghost use Rattle.nr_answer.specs.Views.{auth_of};
@@ -38,14 +38,14 @@ pub struct AuthIter<'a> {
 
 impl<'a> Model for AuthIter<'a> {
     ghost use Rattle.std.specs.Prelude.{List, None, ◌≡◌};
-    ghost use Rattle.nr_spec_wire.specs.Reading.{rows, fault, values_at};
+    ghost use Rattle.nr_spec_wire.specs.Reading.{rows, fault, rows_at};
     ghost use Rattle.nr_spec_log.specs.Authenticator.{Authenticator, authenticator_at};
 
     ghost Value = { List Authenticator };
 
-    ghost view = { λ i. rows (values_at authenticator_at i.fuel i.cursor) };
+    ghost view = { λ i. rows (rows_at authenticator_at i.fuel i.cursor) };
 
-    ghost invariant = { λ i. fault (values_at authenticator_at i.fuel i.cursor) ≡ None };
+    ghost invariant = { λ i. fault (rows_at authenticator_at i.fuel i.cursor) ≡ None };
 }
 
 impl<'a> AuthIter<'a> {
@@ -82,7 +82,7 @@ impl<'a> Iterator for AuthIter<'a> {
 
 // Reads authenticators to the end of the file, and keeps only whether each reads.
 fn check_auths(cursor: &Cursor<'_>) -> Result<(), Place>
-    ensures { fault (all_at authenticator_at cursor.now) ≡ option_map offset_of (result_err result) }
+    ensures { fault (all_rows_at authenticator_at cursor.now) ≡ option_map offset_of (result_err result) }
 {
     let mut ahead = cursor.fork();
     for _ in 0..cursor.left() {

@@ -3,7 +3,7 @@ use Rattle.std.specs.Prelude.{ℕ, ◌+◌, ◌*◌, ◌^◌, ◌<◌, ◌≤◌
 use Rattle.std.specs.List.{flat_map, AllByRecursion}
 use Rattle.std.specs.Str.{bytes_eq}
 use Rattle.byteorder.specs.Endian.{big_bytes}
-use Rattle.nr_spec_wire.specs.Reading.{Spot, Read, ◌>>=◌, start_of, number_at, bytes_at, wants, all_at}
+use Rattle.nr_spec_wire.specs.Reading.{Spot, Read, ◌>>=◌, start_of, number_at, bytes_at, wants, all_rows_at}
 
 -- ---- signatures
 
@@ -123,5 +123,5 @@ magic_at magic s = bytes_at 4 s >>= λ found. wants (bytes_eq found.0 magic) s.a
 unfoldable pub auths_of : List ℕ → Result (List Authenticator) ℕ
 auths_of bytes = do
   magic ← magic_at auths_magic (start_of bytes)
-  auths ← all_at authenticator_at magic.1
+  auths ← all_rows_at authenticator_at magic.1
   Ok auths.0

@@ -1,7 +1,7 @@
 -- Reading values one behind another, as a loop or an iterator does.
 use Rattle.std.proofs.Common.{◌≡◌, ℕ, zero, suc, ◌+◌, ◌-◌, ◌<◌, ◌≤◌, Bool, true, false, cond, eqb, List, [], ◌∷◌, length, Option, Some, None, Result, Ok, Err, refl, sym, ap, ◌∙◌, arith}
 use Rattle.std.proofs.lemmas.Bool.{ne_eqb}
-use Rattle.nr_spec_wire.specs.Reading.{Spot, Read, ◌>>=◌, wants, values_at, rows, fault}
+use Rattle.nr_spec_wire.specs.Reading.{Spot, Read, ◌>>=◌, wants, rows_at, rows, fault}
 
 abbrev fine : {A : Type 0} → A → Result A ℕ
 fine x = Ok x
@@ -48,48 +48,48 @@ steps x read next e none =
 
 -- ---- values to the end of the bytes
 
-pub values-spent : {A : Type 0} (item : Spot → Read A) (fuel : ℕ) (s : Spot) → fuel ≡ 0 → values_at item fuel s ≡ Ok ([], s)
-unfolding values_at
+pub values-spent : {A : Type 0} (item : Spot → Read A) (fuel : ℕ) (s : Spot) → fuel ≡ 0 → rows_at item fuel s ≡ Ok ([], s)
+unfolding rows_at
 values-spent item zero s h = refl
 values-spent item (suc fuel) s h = absurd (omega arith)
 
-pub values-end : {A : Type 0} (item : Spot → Read A) (fuel : ℕ) (s : Spot) → length s.rest ≡ 0 → values_at item fuel s ≡ Ok ([], s)
-unfolding values_at
+pub values-end : {A : Type 0} (item : Spot → Read A) (fuel : ℕ) (s : Spot) → length s.rest ≡ 0 → rows_at item fuel s ≡ Ok ([], s)
+unfolding rows_at
 values-end item zero s h = refl
 values-end item (suc fuel) s h = rw h refl
 
 pub values-more : {A : Type 0} (item : Spot → Read A) (fuel : ℕ) (s : Spot) (x : A) (next : Spot) → (fuel ≡ 0 → ⊥) → (length s.rest ≡ 0 → ⊥) → item s ≡ Ok (x, next)
-    → values_at item fuel s ≡ behind x (values_at item (fuel - 1) next)
-unfolding values_at
+    → rows_at item fuel s ≡ behind x (rows_at item (fuel - 1) next)
+unfolding rows_at
 values-more item zero s x next left rest e = absurd (left refl)
 values-more item (suc fuel) s x next left rest e =
     let one : suc fuel - 1 ≡ fuel = omega arith in
     rw (ne_eqb (length s.rest) 0 rest, e, one) refl
 
 pub values-fault : {A : Type 0} (item : Spot → Read A) (fuel : ℕ) (s : Spot) (place : ℕ) → (fuel ≡ 0 → ⊥) → (length s.rest ≡ 0 → ⊥) → item s ≡ Err place
-    → values_at item fuel s ≡ Err place
-unfolding values_at
+    → rows_at item fuel s ≡ Err place
+unfolding rows_at
 values-fault item zero s place left rest e = absurd (left refl)
 values-fault item (suc fuel) s place left rest e = rw (ne_eqb (length s.rest) 0 rest, e) refl
 
 -- ---- a loop that keeps only the fault, has counted i of the values and reads the others from s
 
 pub fault-goes : {A : Type 0} (item : Spot → Read A) (count i : ℕ) (s : Spot) (x : A) (next : Spot) (total : Option ℕ) → i < count → (length s.rest ≡ 0 → ⊥) → item s ≡ Ok (x, next)
-    → fault (values_at item (count - i) s) ≡ total → fault (values_at item (count - (i + 1)) next) ≡ total
+    → fault (rows_at item (count - i) s) ≡ total → fault (rows_at item (count - (i + 1)) next) ≡ total
 fault-goes item count i s x next total lt rest e so_far =
     let one : count - i - 1 ≡ count - (i + 1) = omega arith in
     let more = ap fault (values-more item (count - i) s x next (λ z. omega arith) rest e) in
-    ap (λ (n : ℕ). fault (values_at item n next)) (sym one) ∙ sym (fault-behind x (values_at item (count - i - 1) next)) ∙ sym more ∙ so_far
+    ap (λ (n : ℕ). fault (rows_at item n next)) (sym one) ∙ sym (fault-behind x (rows_at item (count - i - 1) next)) ∙ sym more ∙ so_far
 
 pub fault-fails : {A : Type 0} (item : Spot → Read A) (count i : ℕ) (s : Spot) (place : ℕ) (total : Option ℕ) → i < count → (length s.rest ≡ 0 → ⊥) → item s ≡ Err place
-    → fault (values_at item (count - i) s) ≡ total → total ≡ Some place
+    → fault (rows_at item (count - i) s) ≡ total → total ≡ Some place
 fault-fails item count i s place total lt rest e so_far =
     sym so_far ∙ ap fault (values-fault item (count - i) s place (λ z. omega arith) rest e)
 
 pub fault-done : {A : Type 0} (item : Spot → Read A) (count i : ℕ) (s : Spot) (total : Option ℕ) → count ≤ i
-    → fault (values_at item (count - i) s) ≡ total → total ≡ None
+    → fault (rows_at item (count - i) s) ≡ total → total ≡ None
 fault-done item count i s total le so_far = sym so_far ∙ ap fault (values-spent item (count - i) s (omega arith))
 
 pub fault-ends : {A : Type 0} (item : Spot → Read A) (count i : ℕ) (s : Spot) (total : Option ℕ) → length s.rest ≡ 0
-    → fault (values_at item (count - i) s) ≡ total → total ≡ None
+    → fault (rows_at item (count - i) s) ≡ total → total ≡ None
 fault-ends item count i s total rest so_far = sym so_far ∙ ap fault (values-end item (count - i) s rest)

@@ -59,14 +59,25 @@ counted_at item (suc n) s = do
   Ok (first.0 ∷ others.0, others.1)
 
 -- Values to the end of the bytes. Each takes a byte or more, so the number of bytes is fuel enough.
-unfoldable pub values_at : {A : Type 0} → (Spot → Read A) → ℕ → Spot → Read (List A)
-values_at item zero s = Ok ([], s)
-values_at item (suc fuel) s = if length s.rest == 0 then Ok ([], s) else (do
+unfoldable pub rows_at : {A : Type 0} → (Spot → Read A) → ℕ → Spot → Read (List A)
+rows_at item zero s = Ok ([], s)
+rows_at item (suc fuel) s = if length s.rest == 0 then Ok ([], s) else (do
   first ← item s
-  others ← values_at item fuel first.1
+  others ← rows_at item fuel first.1
   Ok (first.0 ∷ others.0, others.1))
 
-abbrev pub all_at : {A : Type 0} → (Spot → Read A) → Spot → Read (List A)
+abbrev pub all_rows_at : {A : Type 0} → (Spot → Read A) → Spot → Read (List A)
+all_rows_at item s = rows_at item (length s.rest) s
+
+-- the same values alone
+unfoldable pub values_at : {A : Type 0} → (Spot → Read A) → ℕ → Spot → Result (List A) ℕ
+values_at item zero s = Ok []
+values_at item (suc fuel) s = if length s.rest == 0 then Ok [] else (do
+  first ← item s
+  others ← values_at item fuel first.1
+  Ok (first.0 ∷ others))
+
+abbrev pub all_at : {A : Type 0} → (Spot → Read A) → Spot → Result (List A) ℕ
 all_at item s = values_at item (length s.rest) s
 
 -- the values that were read, none after a fault

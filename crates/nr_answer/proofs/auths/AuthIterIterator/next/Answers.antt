@@ -1,5 +1,5 @@
 use Rattle.std.proofs.Common.{◌≡◌, ◌∷◌, length, sym, ap, ◌∙◌, arith}
-use Rattle.nr_spec_wire.specs.Reading.{rows, fault, values_at}
+use Rattle.nr_spec_wire.specs.Reading.{rows, fault, rows_at}
 use Rattle.nr_spec_wire.proofs.Steps.{steps, values-spent, values-end, values-more, values-fault}
 use Rattle.nr_spec_log.specs.Authenticator.{authenticator_at}
 use Rattle.nr_bytes.specs.Views.{offset_of}
@@ -18,7 +18,7 @@ returns-then-self-eq0-clause-steps c =
 
 pub invariant_of-self : goal.invariant_of-self
 invariant_of-self c =
-    (steps (auth_of c.in-Ok.auth) (values_at authenticator_at c.self.inside.fuel c.self.inside.cursor) _
+    (steps (auth_of c.in-Ok.auth) (rows_at authenticator_at c.self.inside.fuel c.self.inside.cursor) _
     (values-more authenticator_at c.self.inside.fuel c.self.inside.cursor (auth_of c.in-Ok.auth) c.read.new.cursor c.if-self-eq0.false (λ z. c.if-left-eq0.false (c.left.ensures ∙ z)) c.in-Ok.ensures.value)
     c.self.invariant).step_fault
 
@@ -29,7 +29,7 @@ unreachable-requires c =
 
 pub returns-clause-steps : goal.returns-clause-steps
 returns-clause-steps c =
-    sym c.self.view_is ∙ (steps (auth_of c.in-Ok.auth) (values_at authenticator_at c.self.inside.fuel c.self.inside.cursor) _
+    sym c.self.view_is ∙ (steps (auth_of c.in-Ok.auth) (rows_at authenticator_at c.self.inside.fuel c.self.inside.cursor) _
     (values-more authenticator_at c.self.inside.fuel c.self.inside.cursor (auth_of c.in-Ok.auth) c.read.new.cursor c.if-self-eq0.false (λ z. c.if-left-eq0.false (c.left.ensures ∙ z)) c.in-Ok.ensures.value)
     c.self.invariant).step_rows
 
