@@ -4,10 +4,11 @@ use Rattle.nr_ports.specs.Ports.{Contents}
 use Rattle.nr_ports.specs.Views.{TookSome}
 use Rattle.netreview.specs.Command.{Ending, read_fault_ending, memory_ending}
 
--- The ending is that of a read fault, or that of want of memory, or, where the files tell what they hold,
--- the one that is given by what they hold.
-abbrev pub MayEnd : Option Contents → (Contents → Ending) → Ending → Type 0
-MayEnd told given e = (e ≡ read_fault_ending) ⊎ ((e ≡ memory_ending) ⊎ ((held : Contents) → told ≡ Some held → e ≡ given held))
+-- The ending is that of a read fault, where one was counted, or that of want of memory, or, where the files
+-- tell what they hold, the one that is given by what they hold.
+abbrev pub MayEnd : Option Contents → Type 0 → (Contents → Ending) → Ending → Type 0
+MayEnd told counted given e =
+    ((e ≡ read_fault_ending) × counted) ⊎ ((e ≡ memory_ending) ⊎ ((held : Contents) → told ≡ Some held → e ≡ given held))
 
 -- the sink took the whole text behind what it had
 abbrev pub TookAll : Option (List ℕ) → Option (List ℕ) → List ℕ → Type 0

@@ -1,4 +1,4 @@
-//! `netreview` keeps and audits accountable logs of the BGP messages of a network.
+//! `netreview` audits accountable logs of the BGP messages of a network.
 #![tactic(auto)]
 
 mod audit;
@@ -20,10 +20,12 @@ mod tests;
 use run::run;
 use std::env;
 use std::io;
+use std::io::ErrorKind;
 use std::process::ExitCode;
 use system::{Output, SystemFiles};
 
-// The status where the system gives no words.
+// The statuses where memory ran out before there were words, and where the system gives none.
+const MEMORY: u8 = 6;
 const NO_WORDS: u8 = 8;
 
 fn words_of(rt: &HostRuntime) -> io::Result<Vec<String>> {
@@ -31,13 +33,21 @@ fn words_of(rt: &HostRuntime) -> io::Result<Vec<String>> {
     Ok(words)
 }
 
+fn run_words(rt: &HostRuntime, words: &[String]) -> u8 {
+    let mut files = SystemFiles::new(rt, rt.alloc());
+    let mut out = Output::new(io::writer(rt));
+    run(rt.alloc(), words, &mut files, &mut out)
+}
+
 fn main(rt: HostRuntime) -> ExitCode {
     match words_of(&rt) {
-        Err(_) => ExitCode::from(NO_WORDS),
-        Ok(words) => {
-            let mut files = SystemFiles::new(&rt, rt.alloc());
-            let mut out = Output::new(io::writer(&rt));
-            ExitCode::from(run(rt.alloc(), words.as_slice(), &mut files, &mut out))
+        Ok(words) => ExitCode::from(run_words(&rt, words.as_slice())),
+        // A word that isn't UTF-8 is no word of a command, as if there were none.
+        Err(e) if e.kind() == ErrorKind::InvalidData => ExitCode::from(run_words(&rt, &[])),
+        Err(e) if e.kind() == ErrorKind::OutOfMemory => {
+            let _ = println!(rt; "memory");
+            ExitCode::from(MEMORY)
         }
+        Err(_) => ExitCode::from(NO_WORDS),
     }
 }

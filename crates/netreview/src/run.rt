@@ -47,9 +47,11 @@ fn run_audit<F: Files, S: Sink>(
     files: &mut F,
     out: &mut S,
 ) -> u8
-    ensures ends { (e : Ending) × MayEnd (F.holds files.old) (λ held. ended (concluded (audit_of held (audit_request_of request.now)))) e
+    ensures ends { (e : Ending) × MayEnd (F.holds files.old) (Rose (F.read_faults files.old) (F.read_faults files.new))
+        (λ held. ended (concluded (audit_of held (audit_request_of request.now)))) e
         × Delivers (S.taken out.old) (S.taken out.new) e result }
     ensures no_usage { result ≢ 2 }
+    ensures known { result ≤ 7 }
     ensures read_fault { result ≡ 4 → Rose (F.read_faults files.old) (F.read_faults files.new) }
     ensures write_fault { result ≡ 5 → Rose (S.faults out.old) (S.faults out.new) }
     ensures sink { result ≢ 5 → S.faults out.new ≡ S.faults out.old }
@@ -68,7 +70,8 @@ fn run_audit<F: Files, S: Sink>(
     }
 }
 
-/// Runs the command that the words after the program's name ask for, and answers the status.
+/// Runs the command that the words after the program's name ask for, and answers the status. Signatures
+/// aren't checked yet, and no promise file is read: an authenticator accuses by what it states alone.
 pub fn run<F: Files, S: Sink>(
     alloc: Global,
     words: &[String],
@@ -76,13 +79,18 @@ pub fn run<F: Files, S: Sink>(
     out: &mut S,
 ) -> u8
     // One ending is offered: the one that the words and the files give, where these tell what they hold,
-    // or that of a read fault, or that of want of memory. The sink has it whole, unless it failed.
-    ensures ends { (e : Ending) × MayEnd (F.holds files.old) (λ held. run_of held (map string_bytes words.now)) e
+    // or that of a read fault, or that of want of memory. The sink has it whole, unless it failed or found no
+    // memory.
+    ensures ends { (e : Ending) × MayEnd (F.holds files.old) (Rose (F.read_faults files.old) (F.read_faults files.new))
+        (λ held. run_of held (map string_bytes words.now)) e
         × Delivers (S.taken out.old) (S.taken out.new) e result }
 
     // The words alone decide on usage.
     ensures usage { result ≡ 2 → request_in (map string_bytes words.now) ≡ None }
-    ensures not_usage { request_in (map string_bytes words.now) ≡ None → (result ≡ 2) ⊎ ((result ≡ 5) ⊎ (result ≡ 6)) }
+    ensures is_usage { request_in (map string_bytes words.now) ≡ None → (result ≡ 2) ⊎ ((result ≡ 5) ⊎ (result ≡ 6)) }
+
+    // No other status is answered.
+    ensures known { result ≤ 7 }
 
     // Each fault has its cause.
     ensures read_fault { result ≡ 4 → Rose (F.read_faults files.old) (F.read_faults files.new) }

@@ -143,7 +143,8 @@ fn names_the_first_malformed_field(rt: HostRuntime) -> Result<(), Fail> {
         files.put("a", whole.get(..len).unwrap_or(&[]))?;
         assert!(rt; gives(alloc, words.as_slice(), &mut files, 3, text));
     }
-    // AS, first seq, previous value, flag, count, time of entry 2, head's AS, seq and time, height, a byte behind
+    // First seq, previous value, flag and count; the time of entry 2; the head's AS, seq and time; its height, and
+    // a leaf past it
     for (at, value, text) in [
         (15, 0, "malformed answer 8\n"),
         (16, 1, "malformed answer 16\n"),
@@ -153,11 +154,45 @@ fn names_the_first_malformed_field(rt: HostRuntime) -> Result<(), Fail> {
         (122, 0, "malformed answer 119\n"),
         (130, 3, "malformed answer 123\n"),
         (138, 2, "malformed answer 131\n"),
+        (3, 50, "malformed answer 0\n"),
         (175, 17, "malformed answer 175\n"),
         (174, 2, "malformed answer 175\n"),
     ] {
         files.put("a", changed(alloc, at, value)?.as_slice())?;
         assert!(rt; gives(alloc, words.as_slice(), &mut files, 3, text), "at {at}");
+    }
+    let mut longer = smallest(alloc)?;
+    put_u8(&mut longer, 0)?;
+    files.put("a", longer.as_slice())?;
+    assert!(rt; gives(alloc, words.as_slice(), &mut files, 3, "malformed answer 16592\n"));
+    // An answer's fault goes before a fault at the reading of the authenticators.
+    files.put("a", b"NRA")?;
+    files.fail_call(files.calls().saturating_add(3))?;
+    assert!(rt; gives(alloc, words.as_slice(), &mut files, 3, "malformed answer 0\n"));
+    Ok(())
+}
+
+#[test]
+fn names_the_first_malformed_field_of_authenticators(rt: HostRuntime) -> Result<(), Fail> {
+    let alloc = rt.alloc();
+    let mut auths = Vec::new(alloc);
+    put_bytes(&mut auths, b"NRT1")?;
+    put_auth(&mut auths, 2, 1, &[3; 32])?;
+    let words = audit_words(alloc, "0", "0")?;
+    let mut files = row_files(alloc)?;
+    for (len, text) in [
+        (0, "malformed auths 0\n"),
+        (7, "malformed auths 4\n"),
+        (15, "malformed auths 8\n"),
+        (23, "malformed auths 16\n"),
+        (55, "malformed auths 24\n"),
+        (59, "malformed auths 56\n"),
+        (60, "malformed auths 60\n"),
+        (16_444, "malformed auths 61\n"),
+        (16_476, "malformed auths 16445\n"),
+    ] {
+        files.put("t", auths.get(..len).unwrap_or(&[]))?;
+        assert!(rt; gives(alloc, words.as_slice(), &mut files, 3, text), "of {len}");
     }
     Ok(())
 }

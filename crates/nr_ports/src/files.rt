@@ -27,7 +27,8 @@ pub trait Files {
         ensures writes { write_faults self.new ≡ write_faults self.old };
 
     /// Reads as many bytes as fit from a place on into the front of a buffer, and says how many. Fewer
-    /// than fit into the buffer means that the file ends there; an absent name gives 0.
+    /// than fit into the buffer means that the file ends there; an absent name gives 0. After `Failed` the
+    /// buffer may hold any bytes.
     fn read_at(&mut self, name: &str, at: u64, into: &mut [u8]) -> Result<usize, Failed>
         ensures count { (held : Contents) → holds self.old ≡ Some held
             → IfOk result (λ n. n ≡ read_count (bytes_of (held name.now)) at (length into.old)) }
@@ -38,8 +39,9 @@ pub trait Files {
         ensures cause { CountsFaults (read_faults self.old) (read_faults self.new) result }
         ensures writes { write_faults self.new ≡ write_faults self.old };
 
-    /// Writes bytes from a place on, over what is there and past the end. An absent name is made. After
-    /// `Failed` the range may hold any bytes.
+    /// Writes bytes from a place on, over what is there and past the end. The place is at most the size, where
+    /// that is told. An absent name is made. After `Failed` the range may hold any bytes, and after `Memory` all
+    /// is as it was.
     fn write_at(&mut self, name: &str, at: u64, from: &[u8]) -> Result<(), WriteFault>
         requires { (held : Contents) → holds self.old ≡ Some held → at ≤ length (bytes_of (held name.now)) }
         ensures written { (held : Contents) → holds self.old ≡ Some held

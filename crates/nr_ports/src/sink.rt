@@ -1,6 +1,6 @@
 //! A sink as the program sees it.
 
-ghost use Rattle.std.specs.Prelude.{◌≡◌, ◌≤◌, ◌<◌, ℕ, List, length, Option, Some, IfOk};
+ghost use Rattle.std.specs.Prelude.{◌≡◌, ◌≤◌, ◌<◌, ℕ, List, length, Option, None, Some, IfOk};
 ghost use Rattle.nr_ports.specs.Views.{CountsWriteFaults, Takes};
 
 use crate::fault::WriteFault;
@@ -17,6 +17,7 @@ pub trait Sink {
     fn write(&mut self, piece: &[u8]) -> Result<usize, WriteFault>
         ensures value { (before : List ℕ) → taken self.old ≡ Some before
             → Takes before piece.now result (taken self.new) }
+        ensures untold { taken self.old ≡ None → taken self.new ≡ None }
         ensures within { IfOk result (λ n. n ≤ length piece.now) }
         ensures some { 0 < length piece.now → IfOk result (λ n. 0 < n) }
         ensures cause { CountsWriteFaults (faults self.old) (faults self.new) result };

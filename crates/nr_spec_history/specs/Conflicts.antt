@@ -11,7 +11,8 @@ pub record Period : Type 0 where
   pub from : ℕ
   pub to : ℕ
 
--- An authenticator is presented where it names the AS of the answer and has its time in the period.
+-- An authenticator is presented where it names the AS of the answer and has its time in the period. Its
+-- signature isn't asked.
 abbrev pub is_presented : ℕ → Period → Authenticator → Bool
 is_presented asn period a = a.asn == asn && (nat_le period.from a.time && nat_le a.time period.to)
 

@@ -50,14 +50,6 @@ ends_at s x = if length s.rest == 0 then Ok x else Err s.at
 abbrev pub between : Spot → Spot → List ℕ
 between from to = take (length from.rest - length to.rest) from.rest
 
--- as many values as are asked for, one behind another
-unfoldable pub counted_at : {A : Type 0} → (Spot → Read A) → ℕ → Spot → Read (List A)
-counted_at item zero s = Ok ([], s)
-counted_at item (suc n) s = do
-  first ← item s
-  others ← counted_at item n first.1
-  Ok (first.0 ∷ others.0, others.1)
-
 -- Values to the end of the bytes. Each takes a byte or more, so the number of bytes is fuel enough.
 unfoldable pub rows_at : {A : Type 0} → (Spot → Read A) → ℕ → Spot → Read (List A)
 rows_at item zero s = Ok ([], s)
@@ -92,7 +84,7 @@ fault (Err place) = Some place
 
 -- ---- what a reader of the code answers
 
--- New stands where old does or behind it, in the same bytes.
+-- New stands where old does or behind it, and as much closer to the end.
 pub record IsOnward (old new : Spot) : Type 0 where
   pub left : length new.rest ≤ length old.rest
   pub end : new.at + length new.rest ≡ old.at + length old.rest
