@@ -1,3 +1,4 @@
 pub mod Grammar
 pub mod Views
 pub mod Samples
+pub mod Orders

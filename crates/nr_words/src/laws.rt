@@ -1,7 +1,8 @@
 //! What the rule of `clap` says of lists of words that are written out.
 
-ghost use Rattle.std.specs.Prelude.{◌≡◌, None, Some};
+ghost use Rattle.std.specs.Prelude.{◌≡◌, map, replicate, None, Some};
 ghost use Rattle.nr_words.specs.Grammar.{values_in};
+ghost use Rattle.nr_words.specs.Orders.{audit, audit_options, audit_values, audit_words, orders};
 ghost use Rattle.nr_words.specs.Samples.{in_another_order, in_order, sample, sample_values, with_help, with_signs, with_two_keys, without_key, without_value};
 
 /// The options stand in any order, and files on both sides of one. A value may stand behind `=`, and files
@@ -10,8 +11,7 @@ pub fn words_that_are_taken()
     ensures in_order { values_in sample in_order ≡ Some sample_values }
     ensures in_another_order { values_in sample in_another_order ≡ Some sample_values }
     ensures with_signs { values_in sample with_signs ≡ Some sample_values }
-{
-}
+{}
 
 /// An option that is required isn't left out, none is given twice, each has a value, and none is for help.
 pub fn words_that_are_not_taken()
@@ -19,5 +19,9 @@ pub fn words_that_are_not_taken()
     ensures with_two_keys { values_in sample with_two_keys ≡ None }
     ensures without_value { values_in sample without_value ≡ None }
     ensures with_help { values_in sample with_help ≡ None }
-{
-}
+{}
+
+/// Four options with their values mean the same in each of their 24 orders.
+pub fn options_in_each_order()
+    ensures { map (λ options. values_in audit (audit_words options)) (orders audit_options) ≡ replicate 24 (Some audit_values) }
+{}

@@ -13,7 +13,7 @@ use clap::error::ErrorKind;
 use nr_bytes::Memory;
 use std::alloc::Global;
 
-fn option_values<'a>(
+fn options_in<'a>(
     alloc: Global,
     options: &[OptionRule],
     matches: &ArgMatches<'a>,
@@ -28,7 +28,7 @@ fn option_values<'a>(
     Ok(values)
 }
 
-fn files_of<'a>(
+fn files_in<'a>(
     alloc: Global,
     grammar: &Grammar,
     matches: &ArgMatches<'a>,
@@ -45,7 +45,7 @@ fn files_of<'a>(
     }
 }
 
-fn values_in<'a>(
+fn values_from<'a>(
     alloc: Global,
     grammar: &Grammar,
     matches: &ArgMatches<'a>,
@@ -54,8 +54,8 @@ fn values_in<'a>(
         ≡ values_from (grammar_of grammar.now) (rows_of (found_of matches.now))) }
 {
     Ok(Values {
-        options: option_values(alloc, grammar.options, matches)?,
-        files: files_of(alloc, grammar, matches)?,
+        options: options_in(alloc, grammar.options, matches)?,
+        files: files_in(alloc, grammar, matches)?,
     })
 }
 
@@ -71,7 +71,7 @@ pub fn values_of<'a>(
 {
     let command = command_of(alloc, grammar)?;
     match command.try_get_matches_from(words) {
-        Ok(matches) => Ok(Some(values_in(alloc, grammar, &matches)?)),
+        Ok(matches) => Ok(Some(values_from(alloc, grammar, &matches)?)),
         Err(error) => match error.kind() {
             ErrorKind::OutOfMemory => Err(Memory),
             _ => Ok(None),

@@ -6,7 +6,7 @@ use Rattle.nr_words.proofs.reading.values_of.Goals as goal
 
 pub returns-in-Ok : goal.returns-in-Ok
 returns-in-Ok c =
-    ap Some c.in_ok-values_in-in-Ok.ensures
+    ap Some c.in_ok-values_from-in-Ok.ensures
     ∙ taken (app_of c.in_ok-command.command) (grammar_of c.args.grammar.now) _ c.in_ok-command.ensures (rows_of (found_of c.in-Ok.matches)) c.in-Ok.ensures.kinds (λ s. (c.in-Ok.ensures.matches s).0)
 
 pub returns : goal.returns

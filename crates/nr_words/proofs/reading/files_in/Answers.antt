@@ -2,7 +2,7 @@ use Rattle.std.proofs.Common.{sym, ap, ◌∙◌, [], map, cond, unwrap_or}
 use Rattle.clap.specs.Words.{all_of, found_of, rows_of}
 use Rattle.clap.proofs.WalkLemmas.{raw_values-rows}
 use Rattle.nr_words.specs.Grammar.{files_id}
-use Rattle.nr_words.proofs.reading.files_of.Goals as goal
+use Rattle.nr_words.proofs.reading.files_in.Goals as goal
 
 pub returns-in_ok-to_vec-in-Some : goal.returns-in_ok-to_vec-in-Some
 returns-in_ok-to_vec-in-Some c =

@@ -4,7 +4,7 @@ use Rattle.clap.specs.Words.{first_of, found_of, rows_of}
 use Rattle.clap.proofs.WalkLemmas.{first_value-rows}
 use Rattle.nr_words.specs.Views.{option_of}
 use Rattle.nr_words.proofs.GrammarLemmas.{more}
-use Rattle.nr_words.proofs.reading.option_values.Goals as goal
+use Rattle.nr_words.proofs.reading.options_in.Goals as goal
 
 pub loop-option-preserved : goal.loop-option-preserved
 loop-option-preserved c =
