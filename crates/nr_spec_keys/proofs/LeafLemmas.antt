@@ -1,5 +1,5 @@
 -- What is recomputed from the pairs of a leaf is its public leaf.
-use Rattle.std.proofs.Common.{◌≡◌, ◌⊎◌, ℕ, zero, suc, ◌+◌, ◌-◌, ◌*◌, ◌<◌, ◌≤◌, ◌/◌, ◌%◌, ◌^◌, Bool, true, false, List, [], ◌∷◌, ◌++◌, length, take, drop, refl, sym, ap, ◌∙◌, append_assoc, arith, inl, inr}
+use Rattle.std.proofs.Common.{◌≡◌, ◌⊎◌, ℕ, ◌+◌, ◌-◌, ◌*◌, ◌<◌, ◌/◌, ◌%◌, ◌^◌, List, ◌∷◌, ◌++◌, length, take, drop, refl, sym, ap, ◌∙◌, append_assoc, arith, inl, inr}
 use Rattle.std.specs.Prelude.{slice_index}
 use Rattle.std.proofs.lemmas.List.{length-append, take_at, drop_at, drop-drop}
 use Rattle.std.proofs.lemmas.Bool.{cases_lt}
@@ -30,9 +30,9 @@ pub halves : (piece : ℕ → List ℕ) (secret public : List ℕ) (i n : ℕ) �
 halves piece secret public i n lt sizes is secret_size public_size =
     let behind = drop-joined 64 piece i n lt sizes in
     let front : drop (32 * (2 * i)) (joined piece n) ≡ secret ++ (public ++ behind.0) =
-        ap (λ (k : ℕ). drop k (joined piece n)) (omega arith) ∙ behind.1 ∙ ap (λ (xs : List ℕ). xs ++ behind.0) is ∙ append_assoc secret public behind.0 in
+    ap (λ (k : ℕ). drop k (joined piece n)) (omega arith) ∙ behind.1 ∙ ap (λ (xs : List ℕ). xs ++ behind.0) is ∙ append_assoc secret public behind.0 in
     let second : drop (32 * (2 * i + 1)) (joined piece n) ≡ public ++ behind.0 =
-        ap (λ (k : ℕ). drop k (joined piece n)) (omega arith) ∙ sym (drop-drop 32 (32 * (2 * i)) (joined piece n)) ∙ ap (drop 32) front ∙ drop_at secret (public ++ behind.0) 32 secret_size in
+    ap (λ (k : ℕ). drop k (joined piece n)) (omega arith) ∙ sym (drop-drop 32 (32 * (2 * i)) (joined piece n)) ∙ ap (drop 32) front ∙ drop_at secret (public ++ behind.0) 32 secret_size in
     (ap (take 32) front ∙ take_at secret (public ++ behind.0) 32 secret_size, ap (take 32) second ∙ take_at public behind.0 32 public_size)
 
 pub publics_from-pairs_of : (seed digest : List ℕ) (leaf i : ℕ) → i < 256 → publics_from (pairs_of seed leaf digest) digest i ≡ publics_of seed leaf i

@@ -1,5 +1,5 @@
 -- Pieces that were joined are cut apart again.
-use Rattle.std.proofs.Common.{◌≡◌, ◌⊎◌, ℕ, zero, suc, ◌+◌, ◌*◌, ◌<◌, ◌≤◌, List, [], ◌∷◌, ◌++◌, length, take, drop, get_or, refl, sym, ap, ◌∙◌, append_assoc, add-one, arith, inl, inr}
+use Rattle.std.proofs.Common.{◌≡◌, ℕ, zero, suc, ◌+◌, ◌*◌, ◌<◌, List, [], ◌∷◌, ◌++◌, length, take, drop, get_or, refl, ap, ◌∙◌, append_assoc, add-one, arith, inl, inr}
 use Rattle.std.proofs.lemmas.List.{length-append, append-nil, take_at, drop_at, get_or_push, get_or_append_left}
 use Rattle.std.proofs.lemmas.Bool.{cases_lt}
 use Rattle.nr_spec_keys.specs.Pieces.{joined, piece_of}
@@ -68,6 +68,6 @@ get_or-joined {A} f k (suc n) d lt =
     elim (cases_lt k n) [
       | inl below ↦ get_or_append_left (joined (λ j. f j ∷ []) n) (f n ∷ []) d k (omega arith) ∙ get_or-joined f k n d below
       | inr past ↦
-        let is : n ≡ k = omega arith in
-        get_or_push (joined (λ j. f j ∷ []) n) (f n) d k (len ∙ is) ∙ ap f is
+          let is : n ≡ k = omega arith in
+          get_or_push (joined (λ j. f j ∷ []) n) (f n) d k (len ∙ is) ∙ ap f is
     ]

@@ -1,11 +1,10 @@
 -- The signature of a leaf leads to the root of its tree.
-use Rattle.std.proofs.Common.{◌≡◌, ◌⊎◌, ℕ, zero, suc, ◌+◌, ◌-◌, ◌*◌, ◌/◌, ◌%◌, ◌^◌, ◌<◌, ◌≤◌, List, [], ◌∷◌, ◌++◌, length, get_or, refl, sym, ap, ◌∙◌, zero-add, arith, inl, inr}
-use Rattle.std.proofs.lemmas.Nat.{shr-shr, shr_below, pow_pos}
-use Rattle.nr_spec_log.specs.Authenticator.{Signature}
-use Rattle.nr_spec_keys.specs.Pieces.{joined, piece_of}
+use Rattle.std.proofs.Common.{◌≡◌, ℕ, zero, suc, ◌+◌, ◌-◌, ◌*◌, ◌/◌, ◌%◌, ◌^◌, ◌<◌, ◌≤◌, List, [], ◌++◌, length, refl, sym, ap, ◌∙◌, zero-add, arith, inl, inr}
+use Rattle.std.proofs.lemmas.Nat.{shr-shr, shr_below}
+use Rattle.nr_spec_keys.specs.Pieces.{piece_of}
 use Rattle.nr_spec_keys.specs.OneTime.{public_leaf_of, leaf_digest, beside}
 use Rattle.nr_spec_keys.specs.Trees.{node, node_at, tree_of, root_of, sibling, path_of, climbed, signed_digest_of, root_from, signature_by, IsSigned}
-use Rattle.nr_spec_keys.proofs.PieceLemmas.{piece_of-joined, get_or-joined, AreOfSize}
+use Rattle.nr_spec_keys.proofs.PieceLemmas.{piece_of-joined, get_or-joined}
 use Rattle.nr_spec_keys.proofs.LeafLemmas.{length-sha256, one_or_zero, leaf_from-pairs_of}
 
 pub pow-more : (n : ℕ) → 2 ^ suc n ≡ 2 * 2 ^ n
@@ -31,12 +30,12 @@ pub beside-sibling : (row : ℕ → List ℕ) (n : ℕ) → beside (n % 2) (row 
 beside-sibling row n =
     elim (one_or_zero n) [
       | inl even ↦
-        let is : n ≡ 2 * (n / 2) = omega arith in
-        rw even (ap (λ (k : ℕ). row k ++ row (k + 1)) is)
+          let is : n ≡ 2 * (n / 2) = omega arith in
+          rw even (ap (λ (k : ℕ). row k ++ row (k + 1)) is)
       | inr odd ↦
-        let is : n ≡ 2 * (n / 2) + 1 = omega arith in
-        let before : n - 1 ≡ 2 * (n / 2) = omega arith in
-        rw (odd, before) (ap (λ (k : ℕ). row (2 * (n / 2)) ++ row k) is)
+          let is : n ≡ 2 * (n / 2) + 1 = omega arith in
+          let before : n - 1 ≡ 2 * (n / 2) = omega arith in
+          rw (odd, before) (ap (λ (k : ℕ). row (2 * (n / 2)) ++ row k) is)
     ]
 
 -- every node of a tree of a seed is a digest

@@ -4,7 +4,7 @@
 --
 -- SHA-256 is that of FIPS 180-4. Secrets are words of the ChaCha20 stream under a seed (RFC 8439, 2.3, with a
 -- block counter of 64 bits and a stream number of 64 bits in the last four words of the state).
-use Rattle.std.specs.Prelude.{ℕ, ◌+◌, ◌-◌, ◌*◌, ◌/◌, ◌%◌, ◌^◌, ◌==◌, if◌then◌else◌, List, [], ◌∷◌, ◌++◌, slice_index}
+use Rattle.std.specs.Prelude.{ℕ, ◌+◌, ◌-◌, ◌*◌, ◌/◌, ◌%◌, ◌^◌, ◌==◌, if◌then◌else◌, List, ◌∷◌, ◌++◌, slice_index}
 use Rattle.std.specs.Int.{w32, to_le_bytes}
 use Rattle.rand_chacha.specs.ChaCha.{word_at, key_of}
 use Rattle.sha2.specs.Sha256.{sha256}
