@@ -54,18 +54,3 @@ shown-pair seed digest leaf i bit zero_secret one_secret pair bit_is =
     by_value : (b : ℕ) → (b ≡ 0) ⊎ (b ≡ 1) → Shown b
     by_value b (inl is) = rw is refl
     by_value b (inr is) = rw is refl
-
--- ---- appending piece by piece
-
-pub appends-none : (piece : ℕ → List ℕ) (out : List ℕ) → out ≡ out ++ joined piece 0
-appends-none piece out = sym (append-nil out) ∙ ap (λ (xs : List ℕ). out ++ xs) (sym (joined-none piece))
-
-pub appends-more : (piece : ℕ → List ℕ) (out now new added : List ℕ) (i : ℕ) → now ≡ out ++ joined piece i → new ≡ now ++ added → added ≡ piece i → new ≡ out ++ joined piece (i + 1)
-appends-more piece out now new added i so_far is piece_is =
-    is ∙ ap (λ (xs : List ℕ). now ++ xs) piece_is ∙ ap (λ (xs : List ℕ). xs ++ piece i) so_far ∙ append_assoc out (joined piece i) (piece i) ∙ ap (λ (xs : List ℕ). out ++ xs) (sym (joined-more piece i))
-
--- what stood there before stands there still
-pub front-stays : (out more now new : List ℕ) → now ≡ out ++ more → take (length now) new ≡ now → take (length out) new ≡ out
-front-stays out more now new so_far kept =
-    let len : length now ≡ length out + length more = ap length so_far ∙ length-append out more in
-    sym (take-take (length out) (length now) new (omega arith)) ∙ ap (take (length out)) (kept ∙ so_far) ∙ take_at out more (length out) refl

@@ -7,7 +7,7 @@ use Rattle.sha2.specs.Sha256.{sha256, digest_bytes}
 use Rattle.rand_chacha.specs.ChaCha.{key_of}
 use Rattle.nr_spec_keys.specs.Pieces.{joined, piece_of}
 use Rattle.nr_spec_keys.specs.OneTime.{words_of, secret_of, public_of, publics_of, public_leaf_of, bit_of, shown_of, pairs_of, beside, publics_from, leaf_from, leaf_digest}
-use Rattle.nr_spec_keys.proofs.PieceLemmas.{joined-same, drop-joined, AreOfSize}
+use Rattle.nr_spec_keys.proofs.PieceLemmas.{length-joined, joined-same, drop-joined, AreOfSize}
 
 pub length-sha256 : (m : List ℕ) → length (sha256 m) ≡ 32
 unfolding sha256 digest_bytes
@@ -23,6 +23,10 @@ one_or_zero n = elim (cases_lt (n % 2) 1) [ inl lt ↦ inl (omega arith) | inr l
 pub length-shown_of : (seed digest : List ℕ) (leaf i : ℕ) → length (shown_of seed leaf digest i) ≡ 64
 length-shown_of seed digest leaf i =
     omega (arith, length-append (secret_of seed leaf i (bit_of digest i)) (public_of seed leaf i (1 - bit_of digest i)), length-words_of (key_of seed) leaf ((2 * i + bit_of digest i) * 8), length-sha256 (secret_of seed leaf i (1 - bit_of digest i)))
+
+pub length-pairs_of : (seed digest : List ℕ) (leaf : ℕ) → length (pairs_of seed leaf digest) ≡ 16384
+unfolding pairs_of
+length-pairs_of seed digest leaf = length-joined 64 (shown_of seed leaf digest) 256 (λ k below. length-shown_of seed digest leaf k)
 
 -- the two halves of a pair among pairs
 pub halves : (piece : ℕ → List ℕ) (secret public : List ℕ) (i n : ℕ) → i < n → AreOfSize 64 piece n → piece i ≡ secret ++ public → length secret ≡ 32 → length public ≡ 32

@@ -1,6 +1,6 @@
 -- Pieces that were joined are cut apart again.
-use Rattle.std.proofs.Common.{◌≡◌, ℕ, zero, suc, ◌+◌, ◌*◌, ◌<◌, List, [], ◌∷◌, ◌++◌, length, take, drop, get_or, refl, ap, ◌∙◌, append_assoc, add-one, arith, inl, inr}
-use Rattle.std.proofs.lemmas.List.{length-append, append-nil, take_at, drop_at, get_or_push, get_or_append_left}
+use Rattle.std.proofs.Common.{◌≡◌, ℕ, zero, suc, ◌+◌, ◌*◌, ◌<◌, List, [], ◌∷◌, ◌++◌, length, take, drop, get_or, refl, ap, ◌∙◌, append_assoc, add-one, arith, inl, inr, sym}
+use Rattle.std.proofs.lemmas.List.{length-append, append-nil, take_at, take-take, drop_at, get_or_push, get_or_append_left}
 use Rattle.std.proofs.lemmas.Bool.{cases_lt}
 use Rattle.nr_spec_keys.specs.Pieces.{joined, piece_of}
 
@@ -71,3 +71,27 @@ get_or-joined {A} f k (suc n) d lt =
           let is : n ≡ k = omega arith in
           get_or_push (joined (λ j. f j ∷ []) n) (f n) d k (len ∙ is) ∙ ap f is
     ]
+
+-- ---- appending piece by piece
+
+pub appends-none : (piece : ℕ → List ℕ) (out : List ℕ) → out ≡ out ++ joined piece 0
+appends-none piece out = sym (append-nil out) ∙ ap (λ (xs : List ℕ). out ++ xs) (sym (joined-none piece))
+
+pub appends-more : (piece : ℕ → List ℕ) (out now new added : List ℕ) (i : ℕ) → now ≡ out ++ joined piece i → new ≡ now ++ added → added ≡ piece i → new ≡ out ++ joined piece (i + 1)
+appends-more piece out now new added i so_far is piece_is =
+    is ∙ ap (λ (xs : List ℕ). now ++ xs) piece_is ∙ ap (λ (xs : List ℕ). xs ++ piece i) so_far ∙ append_assoc out (joined piece i) (piece i) ∙ ap (λ (xs : List ℕ). out ++ xs) (sym (joined-more piece i))
+
+-- what stood there before stands there still
+pub front-stays : (out more now new : List ℕ) → now ≡ out ++ more → take (length now) new ≡ now → take (length out) new ≡ out
+front-stays out more now new so_far kept =
+    let len : length now ≡ length out + length more = ap length so_far ∙ length-append out more in
+    sym (take-take (length out) (length now) new (omega arith)) ∙ ap (take (length out)) (kept ∙ so_far) ∙ take_at out more (length out) refl
+
+-- four appended one behind another
+pub appended : (out a b c d first second third fourth : List ℕ) → a ≡ out ++ first → b ≡ a ++ second → c ≡ b ++ third → d ≡ c ++ fourth → d ≡ out ++ (first ++ (second ++ (third ++ fourth)))
+appended out a b c d first second third fourth a_is b_is c_is d_is =
+    d_is ∙ ap (λ (xs : List ℕ). xs ++ fourth) (c_is ∙ ap (λ (xs : List ℕ). xs ++ third) (b_is ∙ ap (λ (xs : List ℕ). xs ++ second) a_is)) ∙ simp append_assoc
+
+pub appended_three : (out a b c first second third : List ℕ) → a ≡ out ++ first → b ≡ a ++ second → c ≡ b ++ third → c ≡ out ++ (first ++ (second ++ third))
+appended_three out a b c first second third a_is b_is c_is =
+    c_is ∙ ap (λ (xs : List ℕ). xs ++ third) (b_is ∙ ap (λ (xs : List ℕ). xs ++ second) a_is) ∙ simp append_assoc

@@ -1,11 +1,12 @@
 -- The signature of a leaf leads to the root of its tree.
 use Rattle.std.proofs.Common.{◌≡◌, ℕ, zero, suc, ◌+◌, ◌-◌, ◌*◌, ◌/◌, ◌%◌, ◌^◌, ◌<◌, ◌≤◌, List, [], ◌++◌, length, refl, sym, ap, ◌∙◌, zero-add, arith, inl, inr}
 use Rattle.std.proofs.lemmas.Nat.{shr-shr, shr_below}
+use Rattle.nr_spec_log.specs.Authenticator.{IsSignature}
 use Rattle.nr_spec_keys.specs.Pieces.{piece_of}
 use Rattle.nr_spec_keys.specs.OneTime.{public_leaf_of, leaf_digest, beside}
 use Rattle.nr_spec_keys.specs.Trees.{node, node_at, tree_of, root_of, sibling, path_of, climbed, signed_digest_of, root_from, signature_by, IsSigned}
-use Rattle.nr_spec_keys.proofs.PieceLemmas.{piece_of-joined, get_or-joined}
-use Rattle.nr_spec_keys.proofs.LeafLemmas.{length-sha256, one_or_zero, leaf_from-pairs_of}
+use Rattle.nr_spec_keys.proofs.PieceLemmas.{piece_of-joined, get_or-joined, length-joined}
+use Rattle.nr_spec_keys.proofs.LeafLemmas.{length-sha256, one_or_zero, length-pairs_of, leaf_from-pairs_of}
 
 pub pow-more : (n : ℕ) → 2 ^ suc n ≡ 2 * 2 ^ n
 pow-more n = omega arith
@@ -84,3 +85,34 @@ signature_by-leads seed body height leaf below =
     ap (λ (digest : List ℕ). climbed digest (path_of (tree_of seed height) leaf) leaf height) (leaf_from-pairs_of seed (signed_digest_of body) leaf ∙ sym (node_at-leaf seed height leaf below))
     ∙ climbed-path_of seed height leaf height (omega arith) below
     ∙ ap (node_at ((tree_of seed height).leaves) height) top
+
+-- where the siblings on the way from a leaf stand
+pub sibling_in_row : (height leaf level : ℕ) → level < height → leaf < 2 ^ height → sibling (leaf / 2 ^ level) < 2 ^ (height - level)
+sibling_in_row height leaf level lt below = in_row (height - level) (omega arith) (shr_below leaf (height - level) level (rw sum below))
+  where
+    sum : height - level + level ≡ height
+    sum = omega arith
+
+    in_row : (d : ℕ) → 0 < d → leaf / 2 ^ level < 2 ^ d → sibling (leaf / 2 ^ level) < 2 ^ d
+    in_row zero up under = absurd (omega arith)
+    in_row (suc d) up under = sibling_below (leaf / 2 ^ level) d under
+
+-- ---- the parts of a signature have their sizes
+
+pub length-path_of : (seed : List ℕ) (height leaf : ℕ) → leaf < 2 ^ height → length (path_of (tree_of seed height) leaf) ≡ 32 * height
+unfolding path_of tree_of
+length-path_of seed height leaf below =
+    length-joined 32 (λ l. node_at ((tree_of seed height).leaves) l (sibling (leaf / 2 ^ l))) height (λ l under. length-node_at seed height l _ (λ is. lowest l is (sibling_in_row height leaf l under below)))
+  where
+    lowest : (l : ℕ) → l ≡ 0 → sibling (leaf / 2 ^ l) < 2 ^ (height - l) → sibling (leaf / 2 ^ l) < 2 ^ height
+    lowest l is lt = let whole : height - l ≡ height = omega arith in rw whole at lt
+
+pub signature_by-fits : (seed body : List ℕ) (height leaf : ℕ) → 1 ≤ height → height ≤ 16 → leaf < 2 ^ height → IsSignature (signature_by seed height leaf body)
+unfolding signature_by
+signature_by-fits seed body height leaf least most below = record {
+  leaf = below;
+  least = least;
+  most = most;
+  pairs = length-pairs_of seed (signed_digest_of body) leaf;
+  path = length-path_of seed height leaf below;
+}

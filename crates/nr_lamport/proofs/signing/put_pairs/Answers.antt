@@ -2,7 +2,8 @@ use Rattle.std.proofs.Common.{ℕ, ◌++◌, ◌∙◌, ap, arith, ◌≡◌}
 use Rattle.std.proofs.lemmas.Result.{err_from_is_err_and}
 use Rattle.nr_spec_keys.specs.Pieces.{joined}
 use Rattle.nr_spec_keys.specs.OneTime.{shown_of, pairs_of}
-use Rattle.nr_lamport.proofs.SecretSteps.{begins, pair_fits, goes_on, is_pair, shown-pair, appends-none, appends-more, front-stays}
+use Rattle.nr_lamport.proofs.SecretSteps.{begins, pair_fits, goes_on, is_pair, shown-pair}
+use Rattle.nr_spec_keys.proofs.PieceLemmas.{appends-none, appends-more, front-stays}
 use Rattle.nr_lamport.proofs.signing.put_pairs.Goals as goal
 
 pub loop-i-init : goal.loop-i-init
