@@ -1,0 +1,2 @@
+pub mod ClimbSteps
+pub mod HeapSteps

@@ -1,0 +1,4 @@
+pub mod PieceLemmas
+pub mod LeafLemmas
+pub mod TreeLemmas
+pub mod SignatureLemmas
