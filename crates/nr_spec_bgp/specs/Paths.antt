@@ -77,15 +77,21 @@ last_number [] = 0
 last_number (n ∷ []) = n
 last_number (n ∷ m ∷ numbers) = last_number (m ∷ numbers)
 
--- the first number, where the first segment is an AS_SEQUENCE, else 0
+-- the first number of an AS_SEQUENCE that stands first, else 0
+abbrev pub head_of : Segment → ℕ
+head_of s = if s.kind == 2 then first_number s.numbers else 0
+
 abbrev pub first_as : List Segment → ℕ
 first_as [] = 0
-first_as (s ∷ path) = if s.kind == 2 then first_number s.numbers else 0
+first_as (s ∷ path) = head_of s
 
--- the last number, where the last segment is an AS_SEQUENCE, else 0
+-- the last number of an AS_SEQUENCE that stands last, else 0
+abbrev pub last_of : Segment → ℕ
+last_of s = if s.kind == 2 then last_number s.numbers else 0
+
 abbrev pub last_as : List Segment → ℕ
 last_as [] = 0
-last_as (s ∷ []) = if s.kind == 2 then last_number s.numbers else 0
+last_as (s ∷ []) = last_of s
 last_as (s ∷ t ∷ path) = last_as (t ∷ path)
 
 -- whether the number stands in some segment

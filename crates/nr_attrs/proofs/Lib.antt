@@ -1,0 +1,2 @@
+pub mod NumberWalk
+pub mod SegmentWalk

@@ -1,0 +1,7 @@
+//! Path attributes: a borrowed view of an attribute block, and the questions that promises ask of a route.
+//! Reading copies nothing and allocates nothing.
+#![tactic(auto)]
+
+mod numbers;
+mod segments;
+
