@@ -42,3 +42,25 @@ last_from_some before s (t ∷ path) = last_from_some (last_of s) t path
 pub last_from_zero : (path : List Segment) → last_from 0 path ≡ last_as path
 last_from_zero [] = refl
 last_from_zero (s ∷ path) = last_from_some 0 s path
+
+-- ---- whether a value is a path
+
+fine_of : (first : Segment) (others : Result (List Segment) ℕ) → is_ok (goes_on first others) ≡ is_ok others
+fine_of first (Ok o) = refl
+fine_of first (Err d) = refl
+
+pub fine_step : (as4 : Bool) (s : Spot) (x : Segment) (t : Spot) → 0 < length s.rest → segment_at as4 s ≡ Ok (x, t) → is_ok (segments_at as4 s) ≡ is_ok (segments_at as4 t)
+fine_step as4 s x t some e =
+    let all : segments_at as4 s ≡ goes_on x (segments_at as4 t) = all_step (segment_at as4) (segment_eats as4) s (omega arith) ∙ rw e refl in
+    ap is_ok all ∙ fine_of x (segments_at as4 t)
+
+pub fine_fault : (as4 : Bool) (s : Spot) (place : ℕ) → 0 < length s.rest → segment_at as4 s ≡ Err place → is_ok (segments_at as4 s) ≡ false
+fine_fault as4 s place some e =
+    let all : segments_at as4 s ≡ Err place = all_step (segment_at as4) (segment_eats as4) s (omega arith) ∙ rw e refl in
+    ap is_ok all
+
+pub fine_end : (as4 : Bool) (s : Spot) → length s.rest ≤ 0 → is_ok (segments_at as4 s) ≡ true
+fine_end as4 s none = ap is_ok (all_end (segment_at as4) s (omega arith))
+
+pub segment_shorter : (as4 : Bool) (s : Spot) (x : Segment) (t : Spot) → segment_at as4 s ≡ Ok (x, t) → length t.rest < length s.rest
+segment_shorter as4 s x t e = segment_eats as4 s (x, t) e

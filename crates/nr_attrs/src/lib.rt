@@ -3,5 +3,7 @@
 #![tactic(auto)]
 
 mod numbers;
+mod path;
 mod segments;
+mod values;
 
