@@ -1,2 +1,4 @@
 pub mod NumberWalk
 pub mod SegmentWalk
+pub mod Seeing
+pub mod Reading

@@ -2,6 +2,8 @@
 //! Reading copies nothing and allocates nothing.
 #![tactic(auto)]
 
+mod attrs;
+mod fields;
 mod numbers;
 mod path;
 mod segments;

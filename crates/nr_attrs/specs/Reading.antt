@@ -1,0 +1,11 @@
+-- What a view keeps of the block that it was read from.
+use Rattle.std.specs.Prelude.{◌≡◌, ℕ, Bool, List, Result, Ok}
+use Rattle.nr_spec_bgp.specs.Attributes.{Attribute}
+use Rattle.nr_attrs.specs.First.{FirstValues, StandsFor, IsInRange}
+
+-- the values are the first ones of the attributes that reading gave
+pub record AreFirstOf (as4 : Bool) (v : FirstValues) (read : Result (List Attribute) ℕ) : Type 0 where
+  pub list : List Attribute
+  pub reads : read ≡ Ok list
+  pub stands : StandsFor v list
+  pub ranges : IsInRange as4 v
