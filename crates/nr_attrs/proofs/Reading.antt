@@ -1,10 +1,13 @@
 -- Reading attributes one behind another, as the loop does.
-use Rattle.std.proofs.Common.{◌≡◌, ◌≢◌, ℕ, ◌≤◌, ◌<◌, ◌^◌, Bool, true, false, List, [], ◌∷◌, ◌++◌, length, Option, Some, None, Result, Ok, Err, refl, sym, ap, ◌∙◌, arith}
-use Rattle.nr_spec_wire.specs.Reading.{Spot, Read, ◌>>=◌, wants}
-use Rattle.nr_spec_bgp.specs.Attributes.{Attribute, Placed, attribute_at, may_follow, attributes_from, attributes_at}
+use Rattle.std.proofs.Common.{◌≡◌, ◌≢◌, ℕ, ◌≤◌, ◌<◌, ◌^◌, Bool, true, false, List, [], ◌∷◌, ◌++◌, length, Option, Some, None, Result, Ok, Err, refl, sym, ap, subst, ◌∙◌, ◌-◌, take, arith}
+use Rattle.std.specs.Result.{result_unwrap_or}
+use Rattle.std.proofs.lemmas.List.{take_all}
+use Rattle.nr_spec_wire.specs.Reading.{Spot, Read, ◌>>=◌, wants, start_of, between}
+use Rattle.nr_spec_bgp.specs.Attributes.{Attribute, Placed, attribute_at, may_follow, attributes_from, attributes_at, attributes_in, AttributeBlock, block_at}
 use Rattle.nr_spec_bgp.proofs.Walks.{going_on, attributes_behind, attributes_step, attributes_end}
+use Rattle.nr_spec_bgp.proofs.Alike.{same_block}
 use Rattle.nr_attrs.specs.First.{FirstValues, none_yet, seen_after, StandsFor, IsInRange}
-use Rattle.nr_attrs.specs.Reading.{AreFirstOf}
+use Rattle.nr_attrs.specs.Reading.{AreFirstOf, list_in}
 use Rattle.nr_attrs.proofs.Seeing.{Step, see_one, none_stands, none_in_range}
 
 -- so far: the values are those of some attributes, behind which the rest reads as all do
@@ -53,3 +56,21 @@ pub faults : (as4 : Bool) (v : FirstValues) (s : Spot) (all : Result (List Attri
 faults as4 v s all place h some e =
     let one : attributes_behind as4 h.before s ≡ Err place = attributes_step as4 h.before s (omega arith) ∙ rw e refl in
     sym h.rest ∙ one
+
+-- ---- a block by itself
+
+pub in_block : (as4 : Bool) (v : FirstValues) (s : Spot) → AreFirstOf as4 v (attributes_at as4 s) → AreFirstOf as4 v (attributes_in as4 s.rest)
+in_block as4 v s h = record { list = h.list; reads = same_block as4 s (start_of s.rest) h.list refl h.reads; stands = h.stands; ranges = h.ranges }
+
+pub all_bytes : (s t : Spot) → length t.rest ≡ 0 → between s t ≡ s.rest
+all_bytes s t none = rw none (take_all (length s.rest - 0) s.rest (omega arith))
+
+pub block_read : (as4 : Bool) (v : FirstValues) (s : Spot) → AreFirstOf as4 v (attributes_at as4 s) → block_at as4 s ≡ Ok (record { block = s.rest; as4 = as4; list = list_in as4 s.rest })
+unfolding block_at
+block_read as4 v s h =
+    let alone : list_in as4 s.rest ≡ h.list = ap (λ (r : Result (List Attribute) ℕ). result_unwrap_or r []) (same_block as4 s (start_of s.rest) h.list refl h.reads) in
+    rw (h.reads, alone) refl
+
+pub block_fault : (as4 : Bool) (s : Spot) (place : ℕ) → attributes_at as4 s ≡ Err place → block_at as4 s ≡ Err place
+unfolding block_at
+block_fault as4 s place e = rw e refl

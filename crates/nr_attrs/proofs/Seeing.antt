@@ -54,9 +54,11 @@ put_origin : (as4 : Bool) (v : FirstValues) (before : List Attribute) (value : L
     → Step as4 before (record { kind = 1; value = value }) (put set_origin v o)
 put_origin as4 v before value None h r s p = s
 put_origin as4 v before value (Some w) h r s p =
-    let a : Attribute = record { kind = 1; value = value } in
-    (s.0, record { origin = s.1; path = h.path ∙ sym (first_other 2 before a refl); next_hop = h.next_hop ∙ sym (first_other 3 before a refl); med = h.med ∙ sym (first_other 4 before a refl); pref = h.pref ∙ sym (first_other 5 before a refl); communities = h.communities ∙ sym (first_other 8 before a refl) },
-      record { origin = p; path = r.path; next_hop = r.next_hop; med = r.med; pref = r.pref; communities = r.communities })
+    let a : Attribute = record { kind = 1; value = value } in (
+      s.0,
+      record { origin = s.1; path = h.path ∙ sym (first_other 2 before a refl); next_hop = h.next_hop ∙ sym (first_other 3 before a refl); med = h.med ∙ sym (first_other 4 before a refl); pref = h.pref ∙ sym (first_other 5 before a refl); communities = h.communities ∙ sym (first_other 8 before a refl) },
+      record { origin = p; path = r.path; next_hop = r.next_hop; med = r.med; pref = r.pref; communities = r.communities },
+    )
 
 see_origin : (as4 : Bool) (v : FirstValues) (before : List Attribute) (value : List ℕ) → length value < 2 ^ 16 → StandsFor v before → IsInRange as4 v → Step as4 before (record { kind = 1; value = value }) (seen_after as4 v (record { kind = 1; value = value }))
 see_origin as4 v before value short h r =
@@ -67,9 +69,11 @@ put_path : (as4 : Bool) (v : FirstValues) (before : List Attribute) (value : Lis
     → Step as4 before (record { kind = 2; value = value }) (put set_path v o)
 put_path as4 v before value None h r s p = s
 put_path as4 v before value (Some w) h r s p =
-    let a : Attribute = record { kind = 2; value = value } in
-    (s.0, record { origin = h.origin ∙ sym (first_other 1 before a refl); path = s.1; next_hop = h.next_hop ∙ sym (first_other 3 before a refl); med = h.med ∙ sym (first_other 4 before a refl); pref = h.pref ∙ sym (first_other 5 before a refl); communities = h.communities ∙ sym (first_other 8 before a refl) },
-      record { origin = r.origin; path = p; next_hop = r.next_hop; med = r.med; pref = r.pref; communities = r.communities })
+    let a : Attribute = record { kind = 2; value = value } in (
+      s.0,
+      record { origin = h.origin ∙ sym (first_other 1 before a refl); path = s.1; next_hop = h.next_hop ∙ sym (first_other 3 before a refl); med = h.med ∙ sym (first_other 4 before a refl); pref = h.pref ∙ sym (first_other 5 before a refl); communities = h.communities ∙ sym (first_other 8 before a refl) },
+      record { origin = r.origin; path = p; next_hop = r.next_hop; med = r.med; pref = r.pref; communities = r.communities },
+    )
 
 see_path : (as4 : Bool) (v : FirstValues) (before : List Attribute) (value : List ℕ) → length value < 2 ^ 16 → StandsFor v before → IsInRange as4 v → Step as4 before (record { kind = 2; value = value }) (seen_after as4 v (record { kind = 2; value = value }))
 see_path as4 v before value short h r =
@@ -80,9 +84,11 @@ put_next_hop : (as4 : Bool) (v : FirstValues) (before : List Attribute) (value :
     → Step as4 before (record { kind = 3; value = value }) (put set_next_hop v o)
 put_next_hop as4 v before value None h r s p = s
 put_next_hop as4 v before value (Some w) h r s p =
-    let a : Attribute = record { kind = 3; value = value } in
-    (s.0, record { origin = h.origin ∙ sym (first_other 1 before a refl); path = h.path ∙ sym (first_other 2 before a refl); next_hop = s.1; med = h.med ∙ sym (first_other 4 before a refl); pref = h.pref ∙ sym (first_other 5 before a refl); communities = h.communities ∙ sym (first_other 8 before a refl) },
-      record { origin = r.origin; path = r.path; next_hop = p; med = r.med; pref = r.pref; communities = r.communities })
+    let a : Attribute = record { kind = 3; value = value } in (
+      s.0,
+      record { origin = h.origin ∙ sym (first_other 1 before a refl); path = h.path ∙ sym (first_other 2 before a refl); next_hop = s.1; med = h.med ∙ sym (first_other 4 before a refl); pref = h.pref ∙ sym (first_other 5 before a refl); communities = h.communities ∙ sym (first_other 8 before a refl) },
+      record { origin = r.origin; path = r.path; next_hop = p; med = r.med; pref = r.pref; communities = r.communities },
+    )
 
 see_next_hop : (as4 : Bool) (v : FirstValues) (before : List Attribute) (value : List ℕ) → length value < 2 ^ 16 → StandsFor v before → IsInRange as4 v → Step as4 before (record { kind = 3; value = value }) (seen_after as4 v (record { kind = 3; value = value }))
 see_next_hop as4 v before value short h r =
@@ -93,9 +99,11 @@ put_med : (as4 : Bool) (v : FirstValues) (before : List Attribute) (value : List
     → Step as4 before (record { kind = 4; value = value }) (put set_med v o)
 put_med as4 v before value None h r s p = s
 put_med as4 v before value (Some w) h r s p =
-    let a : Attribute = record { kind = 4; value = value } in
-    (s.0, record { origin = h.origin ∙ sym (first_other 1 before a refl); path = h.path ∙ sym (first_other 2 before a refl); next_hop = h.next_hop ∙ sym (first_other 3 before a refl); med = s.1; pref = h.pref ∙ sym (first_other 5 before a refl); communities = h.communities ∙ sym (first_other 8 before a refl) },
-      record { origin = r.origin; path = r.path; next_hop = r.next_hop; med = p; pref = r.pref; communities = r.communities })
+    let a : Attribute = record { kind = 4; value = value } in (
+      s.0,
+      record { origin = h.origin ∙ sym (first_other 1 before a refl); path = h.path ∙ sym (first_other 2 before a refl); next_hop = h.next_hop ∙ sym (first_other 3 before a refl); med = s.1; pref = h.pref ∙ sym (first_other 5 before a refl); communities = h.communities ∙ sym (first_other 8 before a refl) },
+      record { origin = r.origin; path = r.path; next_hop = r.next_hop; med = p; pref = r.pref; communities = r.communities },
+    )
 
 see_med : (as4 : Bool) (v : FirstValues) (before : List Attribute) (value : List ℕ) → length value < 2 ^ 16 → StandsFor v before → IsInRange as4 v → Step as4 before (record { kind = 4; value = value }) (seen_after as4 v (record { kind = 4; value = value }))
 see_med as4 v before value short h r =
@@ -106,9 +114,11 @@ put_pref : (as4 : Bool) (v : FirstValues) (before : List Attribute) (value : Lis
     → Step as4 before (record { kind = 5; value = value }) (put set_pref v o)
 put_pref as4 v before value None h r s p = s
 put_pref as4 v before value (Some w) h r s p =
-    let a : Attribute = record { kind = 5; value = value } in
-    (s.0, record { origin = h.origin ∙ sym (first_other 1 before a refl); path = h.path ∙ sym (first_other 2 before a refl); next_hop = h.next_hop ∙ sym (first_other 3 before a refl); med = h.med ∙ sym (first_other 4 before a refl); pref = s.1; communities = h.communities ∙ sym (first_other 8 before a refl) },
-      record { origin = r.origin; path = r.path; next_hop = r.next_hop; med = r.med; pref = p; communities = r.communities })
+    let a : Attribute = record { kind = 5; value = value } in (
+      s.0,
+      record { origin = h.origin ∙ sym (first_other 1 before a refl); path = h.path ∙ sym (first_other 2 before a refl); next_hop = h.next_hop ∙ sym (first_other 3 before a refl); med = h.med ∙ sym (first_other 4 before a refl); pref = s.1; communities = h.communities ∙ sym (first_other 8 before a refl) },
+      record { origin = r.origin; path = r.path; next_hop = r.next_hop; med = r.med; pref = p; communities = r.communities },
+    )
 
 see_pref : (as4 : Bool) (v : FirstValues) (before : List Attribute) (value : List ℕ) → length value < 2 ^ 16 → StandsFor v before → IsInRange as4 v → Step as4 before (record { kind = 5; value = value }) (seen_after as4 v (record { kind = 5; value = value }))
 see_pref as4 v before value short h r =
@@ -119,9 +129,11 @@ put_communities : (as4 : Bool) (v : FirstValues) (before : List Attribute) (valu
     → Step as4 before (record { kind = 8; value = value }) (put set_communities v o)
 put_communities as4 v before value None h r s p = s
 put_communities as4 v before value (Some w) h r s p =
-    let a : Attribute = record { kind = 8; value = value } in
-    (s.0, record { origin = h.origin ∙ sym (first_other 1 before a refl); path = h.path ∙ sym (first_other 2 before a refl); next_hop = h.next_hop ∙ sym (first_other 3 before a refl); med = h.med ∙ sym (first_other 4 before a refl); pref = h.pref ∙ sym (first_other 5 before a refl); communities = s.1 },
-      record { origin = r.origin; path = r.path; next_hop = r.next_hop; med = r.med; pref = r.pref; communities = p })
+    let a : Attribute = record { kind = 8; value = value } in (
+      s.0,
+      record { origin = h.origin ∙ sym (first_other 1 before a refl); path = h.path ∙ sym (first_other 2 before a refl); next_hop = h.next_hop ∙ sym (first_other 3 before a refl); med = h.med ∙ sym (first_other 4 before a refl); pref = h.pref ∙ sym (first_other 5 before a refl); communities = s.1 },
+      record { origin = r.origin; path = r.path; next_hop = r.next_hop; med = r.med; pref = r.pref; communities = p },
+    )
 
 see_communities : (as4 : Bool) (v : FirstValues) (before : List Attribute) (value : List ℕ) → length value < 2 ^ 16 → StandsFor v before → IsInRange as4 v → Step as4 before (record { kind = 8; value = value }) (seen_after as4 v (record { kind = 8; value = value }))
 see_communities as4 v before value short h r =
@@ -144,12 +156,27 @@ test_of false = inr refl
 
 kind_of : (k : ℕ) → Kind k
 kind_of k =
-    elim (test_of (eqb k 1)) [ inl e ↦ is_origin_kind (eqb-true _ _ e) | inr n1 ↦
-    elim (test_of (eqb k 2)) [ inl e ↦ is_path_kind (eqb-true _ _ e) | inr n2 ↦
-    elim (test_of (eqb k 3)) [ inl e ↦ is_next_hop_kind (eqb-true _ _ e) | inr n3 ↦
-    elim (test_of (eqb k 4)) [ inl e ↦ is_med_kind (eqb-true _ _ e) | inr n4 ↦
-    elim (test_of (eqb k 5)) [ inl e ↦ is_pref_kind (eqb-true _ _ e) | inr n5 ↦
-    elim (test_of (eqb k 8)) [ inl e ↦ is_communities_kind (eqb-true _ _ e) | inr n8 ↦ is_other n1 n2 n3 n4 n5 n8 ] ] ] ] ] ]
+    elim (test_of (eqb k 1)) [
+      | inl e ↦ is_origin_kind (eqb-true _ _ e)
+      | inr n1 ↦
+          elim (test_of (eqb k 2)) [
+            | inl e ↦ is_path_kind (eqb-true _ _ e)
+            | inr n2 ↦
+                elim (test_of (eqb k 3)) [
+                  | inl e ↦ is_next_hop_kind (eqb-true _ _ e)
+                  | inr n3 ↦
+                      elim (test_of (eqb k 4)) [
+                        | inl e ↦ is_med_kind (eqb-true _ _ e)
+                        | inr n4 ↦
+                            elim (test_of (eqb k 5)) [
+                              | inl e ↦ is_pref_kind (eqb-true _ _ e)
+                              | inr n5 ↦
+                                  elim (test_of (eqb k 8)) [ inl e ↦ is_communities_kind (eqb-true _ _ e) | inr n8 ↦ is_other n1 n2 n3 n4 n5 n8 ]
+                            ]
+                      ]
+                ]
+          ]
+    ]
 
 or_true : (b : Bool) → (b || true) ≡ true
 or_true true = refl
@@ -162,14 +189,14 @@ see_other as4 v before a h r n1 n2 n3 n4 n5 n8 =
     let fine : is_value as4 a.kind a.value ≡ true = rw (n1, n2, n3, n4, n5, n8) refl in
     let follows : may_follow as4 before a ≡ true = ap (λ (t : Bool). is_some (first_of a.kind before) || t) fine ∙ or_true _ in
     subst (Step as4 before a) (sym unread)
-      (follows, record { origin = h.origin ∙ sym (first_other 1 before a n1); path = h.path ∙ sym (first_other 2 before a n2); next_hop = h.next_hop ∙ sym (first_other 3 before a n3); med = h.med ∙ sym (first_other 4 before a n4); pref = h.pref ∙ sym (first_other 5 before a n5); communities = h.communities ∙ sym (first_other 8 before a n8) }, r)
+    (follows, record { origin = h.origin ∙ sym (first_other 1 before a n1); path = h.path ∙ sym (first_other 2 before a n2); next_hop = h.next_hop ∙ sym (first_other 3 before a n3); med = h.med ∙ sym (first_other 4 before a n4); pref = h.pref ∙ sym (first_other 5 before a n5); communities = h.communities ∙ sym (first_other 8 before a n8) }, r)
 
 -- one more attribute
 pub see_one : (as4 : Bool) (v : FirstValues) (before : List Attribute) (a : Attribute) → length a.value < 2 ^ 16 → StandsFor v before → IsInRange as4 v → Step as4 before a (seen_after as4 v a)
 see_one as4 v before a short h r =
     let P : ℕ → Type 0 = λ k. Step as4 before (record { kind = k; value = a.value }) (seen_after as4 v (record { kind = k; value = a.value })) in
     elim (kind_of a.kind) [
-      is_origin_kind e ↦ subst P (sym e) (see_origin as4 v before a.value short h r)
+      | is_origin_kind e ↦ subst P (sym e) (see_origin as4 v before a.value short h r)
       | is_path_kind e ↦ subst P (sym e) (see_path as4 v before a.value short h r)
       | is_next_hop_kind e ↦ subst P (sym e) (see_next_hop as4 v before a.value short h r)
       | is_med_kind e ↦ subst P (sym e) (see_med as4 v before a.value short h r)

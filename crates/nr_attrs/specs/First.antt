@@ -43,12 +43,12 @@ set_communities v w = record v { communities = w }
 -- with one more attribute, unless it is the first of its type and has no value of that type
 abbrev pub seen_after : Bool → FirstValues → Attribute → Option FirstValues
 seen_after as4 v a =
-  if a.kind == 1 then put set_origin v (first_after (is_origin a.value) v.origin a.value) else
-  (if a.kind == 2 then put set_path v (first_after (is_path as4 a.value) v.path a.value) else
-  (if a.kind == 3 then put set_next_hop v (first_after (is_word a.value) v.next_hop a.value) else
-  (if a.kind == 4 then put set_med v (first_after (is_word a.value) v.med a.value) else
-  (if a.kind == 5 then put set_pref v (first_after (is_word a.value) v.pref a.value) else
-  (if a.kind == 8 then put set_communities v (first_after (is_words a.value) v.communities a.value) else Some v)))))
+    if a.kind == 1 then put set_origin v (first_after (is_origin a.value) v.origin a.value) else
+    (if a.kind == 2 then put set_path v (first_after (is_path as4 a.value) v.path a.value) else
+    (if a.kind == 3 then put set_next_hop v (first_after (is_word a.value) v.next_hop a.value) else
+    (if a.kind == 4 then put set_med v (first_after (is_word a.value) v.med a.value) else
+    (if a.kind == 5 then put set_pref v (first_after (is_word a.value) v.pref a.value) else
+    (if a.kind == 8 then put set_communities v (first_after (is_words a.value) v.communities a.value) else Some v)))))
 
 -- what is kept of a list of attributes
 pub record StandsFor (v : FirstValues) (list : List Attribute) : Type 0 where

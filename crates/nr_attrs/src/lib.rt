@@ -9,3 +9,5 @@ mod path;
 mod segments;
 mod values;
 
+pub use attrs::Attrs;
+pub use path::{PathItem, PathItems};

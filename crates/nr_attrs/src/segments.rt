@@ -21,6 +21,7 @@ pub struct Segment<'a> {
 }
 
 pub const SET: u8 = 1;
+
 pub const SEQUENCE: u8 = 2;
 
 #[tactic(auto, unfolding(nr_spec_bgp::specs::Paths::segment_at))]

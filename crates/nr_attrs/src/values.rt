@@ -27,16 +27,14 @@ impl<'a> Model for Values<'a> {
 
     ghost Value = { FirstValues };
 
-    ghost view = {
-        λ v. record {
-            origin = option_map (λ b. b.now) v.origin;
-            path = option_map (λ b. b.now) v.path;
-            next_hop = option_map (λ b. b.now) v.next_hop;
-            med = option_map (λ b. b.now) v.med;
-            pref = option_map (λ b. b.now) v.pref;
-            communities = option_map (λ b. b.now) v.communities
-        }
-    };
+    ghost view = { λ v. record {
+      origin = option_map (λ b. b.now) v.origin;
+      path = option_map (λ b. b.now) v.path;
+      next_hop = option_map (λ b. b.now) v.next_hop;
+      med = option_map (λ b. b.now) v.med;
+      pref = option_map (λ b. b.now) v.pref;
+      communities = option_map (λ b. b.now) v.communities;
+    } };
 }
 
 fn is_origin(value: &[u8]) -> bool
@@ -95,6 +93,20 @@ impl<'a> Values<'a> {
             med: None,
             pref: None,
             communities: None,
+        }
+    }
+
+    /// The same values.
+    pub fn fork(&self) -> Values<'a>
+        ensures { result ≡ self.now }
+    {
+        Values {
+            origin: self.origin,
+            path: self.path,
+            next_hop: self.next_hop,
+            med: self.med,
+            pref: self.pref,
+            communities: self.communities,
         }
     }
 

@@ -88,9 +88,9 @@ attributes_alike as4 zero before s t e = refl
 attributes_alike as4 (suc n) before s t e =
     let P : List ℕ → Type 0 = λ r. Alike IsSame (attributes_from (suc n) as4 before s) (cond (eqb (length r) 0) (Ok before) (attribute_at t >>= λ a. wants (may_follow as4 before a.0.what) a.0.at a.0.what >>= λ w. attributes_from n as4 (before ++ w ∷ []) a.1)) in
     subst P e
-      (alike_if (eqb (length s.rest) 0) before _ _
-        (alike_bind SameAttribute IsSame (attribute_at s) (attribute_at t) _ _ (attribute_alike s t e)
-          (walk_on as4 before (attributes_from n as4) (attributes_from n as4) (attributes_alike as4 n))))
+    (alike_if (eqb (length s.rest) 0) before _ _
+    (alike_bind SameAttribute IsSame (attribute_at s) (attribute_at t) _ _ (attribute_alike s t e)
+    (walk_on as4 before (attributes_from n as4) (attributes_from n as4) (attributes_alike as4 n))))
 
 alike_ok : (r q : Result (List Attribute) ℕ) (l : List Attribute) → Alike IsSame r q → r ≡ Ok l → q ≡ Ok l
 alike_ok (Ok x) (Ok y) l a e = let x-is : x ≡ l = cc in let y-is : y ≡ l = sym a ∙ x-is in ap (λ (v : List Attribute). Ok v) y-is

@@ -109,8 +109,8 @@ attributes_step_at as4 before zero s some e = absurd (some e)
 attributes_step_at as4 before (suc n) s some e =
     let ne : eqb (length s.rest) 0 ≡ false = ne_eqb _ _ some in
     rw ne
-      (same_walk as4 before false (attribute_at s) (attributes_from n as4) (attributes_behind as4)
-        (λ x l is. enough_attributes as4 n (length x.1.rest) l x.1 (omega (arith, attribute_eats s x is)) (omega arith)))
+    (same_walk as4 before false (attribute_at s) (attributes_from n as4) (attributes_behind as4)
+    (λ x l is. enough_attributes as4 n (length x.1.rest) l x.1 (omega (arith, attribute_eats s x is)) (omega arith)))
 
 -- the first attribute, and then the others
 pub attributes_step : (as4 : Bool) (before : List Attribute) (s : Spot) → length s.rest ≢ 0 → attributes_behind as4 before s ≡ (attribute_at s >>= going_on as4 before (attributes_behind as4))

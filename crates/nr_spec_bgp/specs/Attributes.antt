@@ -52,12 +52,12 @@ is_words value = length value % 4 == 0
 -- any other type is kept unread
 abbrev pub is_value : Bool → ℕ → List ℕ → Bool
 is_value as4 kind value =
-  if kind == 1 then is_origin value else
-  (if kind == 2 then is_path as4 value else
-  (if kind == 3 then is_word value else
-  (if kind == 4 then is_word value else
-  (if kind == 5 then is_word value else
-  (if kind == 8 then is_words value else true)))))
+    if kind == 1 then is_origin value else
+    (if kind == 2 then is_path as4 value else
+    (if kind == 3 then is_word value else
+    (if kind == 4 then is_word value else
+    (if kind == 5 then is_word value else
+    (if kind == 8 then is_words value else true)))))
 
 -- ---- a block: attributes to the end of its bytes
 

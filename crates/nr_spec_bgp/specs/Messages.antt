@@ -53,11 +53,11 @@ open_at size s = do
 -- the message of a type behind its header, and the places of its length and of its type
 unfoldable pub body_at : Bool → ℕ → ℕ → ℕ → ℕ → Spot → Result Meaning ℕ
 body_at as4 size size-at kind kind-at s =
-  if kind == 1 then wants (nat_le 29 size) size-at s >>= (λ body. open_at size body) else
-  (if kind == 2 then wants (nat_le 23 size) size-at s >>= (λ body. update_at as4 body) else
-  (if kind == 3 then wants (nat_le 21 size) size-at Notifies else
-  (if kind == 4 then wants (size == 19) size-at KeepsAlive else
-  (if kind == 5 then wants (nat_le 23 size) size-at Refreshes else Err kind-at))))
+    if kind == 1 then wants (nat_le 29 size) size-at s >>= (λ body. open_at size body) else
+    (if kind == 2 then wants (nat_le 23 size) size-at s >>= (λ body. update_at as4 body) else
+    (if kind == 3 then wants (nat_le 21 size) size-at Notifies else
+    (if kind == 4 then wants (size == 19) size-at KeepsAlive else
+    (if kind == 5 then wants (nat_le 23 size) size-at Refreshes else Err kind-at))))
 
 -- the marker of the header (section 4.1)
 abbrev pub is_marker : List ℕ → Bool

@@ -114,8 +114,8 @@ pub record Ends : Type 0 where
 
 abbrev pub body_bytes : ℕ → Ends → List ℕ → List ℕ
 body_bytes micros e raw =
-  big_bytes 4 micros ++ big_bytes 4 e.peer_as ++ big_bytes 4 e.own_as ++ big_bytes 2 0 ++ big_bytes 2 1 ++ big_bytes 4 e.peer ++ big_bytes 4 e.own ++ raw
+    big_bytes 4 micros ++ big_bytes 4 e.peer_as ++ big_bytes 4 e.own_as ++ big_bytes 2 0 ++ big_bytes 2 1 ++ big_bytes 4 e.peer ++ big_bytes 4 e.own ++ raw
 
 abbrev pub record_bytes : ℕ → Bool → Ends → List ℕ → List ℕ
 record_bytes time sent e raw =
-  big_bytes 4 (time / 1000000) ++ big_bytes 2 17 ++ big_bytes 2 (if sent then 7 else 4) ++ big_bytes 4 (length (body_bytes (time % 1000000) e raw)) ++ body_bytes (time % 1000000) e raw
+    big_bytes 4 (time / 1000000) ++ big_bytes 2 17 ++ big_bytes 2 (if sent then 7 else 4) ++ big_bytes 4 (length (body_bytes (time % 1000000) e raw)) ++ body_bytes (time % 1000000) e raw
