@@ -5,6 +5,7 @@
 mod message;
 mod prefixes;
 mod update;
+mod write;
 
 pub use message::{Message, read};
 pub use prefixes::Prefixes;
