@@ -1,7 +1,7 @@
 -- Prefixes one behind another.
-use Rattle.std.proofs.Common.{◌≡◌, ◌≢◌, ℕ, ◌≤◌, ◌<◌, Bool, leb, List, [], ◌∷◌, length, Option, Some, None, Result, Ok, Err, refl, sym, ap, ◌∙◌, arith}
+use Rattle.std.proofs.Common.{◌≡◌, ◌≢◌, ℕ, ◌≤◌, ◌<◌, leb, List, [], ◌∷◌, length, Some, None, Result, Ok, Err, refl, ◌∙◌, arith}
 use Rattle.std.specs.Result.{result_unwrap_or}
-use Rattle.nr_spec_wire.specs.Reading.{Spot, Read, ◌>>=◌, number_at, bytes_at, wants, all_at}
+use Rattle.nr_spec_wire.specs.Reading.{Spot, ◌>>=◌, number_at, bytes_at, wants}
 use Rattle.nr_spec_bgp.specs.Prefixes.{Cidr, masked, address_of, bytes_for, faults_at, cidr_at}
 use Rattle.nr_spec_bgp.specs.Messages.{cidrs_at}
 use Rattle.nr_spec_bgp.proofs.Steps.{bind_ok, ok_is, faults_ok, number_leaves, bytes_leaves}
@@ -20,10 +20,10 @@ cidr_eats s x e =
 pub cidr_shorter : (s : Spot) (x : Cidr) (t : Spot) → cidr_at s ≡ Ok (x, t) → length t.rest < length s.rest
 cidr_shorter s x t e = cidr_eats s (x, t) e
 
-abbrev goes_on : Cidr → Result (List Cidr) ℕ → Result (List Cidr) ℕ
+abbrev pub goes_on : Cidr → Result (List Cidr) ℕ → Result (List Cidr) ℕ
 goes_on first others = others >>= λ o. Ok (first ∷ o)
 
-all_of : (s : Spot) (x : Cidr) (t : Spot) → 0 < length s.rest → cidr_at s ≡ Ok (x, t) → cidrs_at s ≡ goes_on x (cidrs_at t)
+pub all_of : (s : Spot) (x : Cidr) (t : Spot) → 0 < length s.rest → cidr_at s ≡ Ok (x, t) → cidrs_at s ≡ goes_on x (cidrs_at t)
 all_of s x t some e = all_step cidr_at cidr_eats s (omega arith) ∙ rw e refl
 
 none_of : (s : Spot) (place : ℕ) → 0 < length s.rest → cidr_at s ≡ Err place → cidrs_at s ≡ Err place

@@ -28,9 +28,13 @@ pub enum Message<'a> {
 }
 
 const OPEN: u8 = 1;
+
 const UPDATE: u8 = 2;
+
 const NOTIFICATION: u8 = 3;
+
 const KEEPALIVE: u8 = 4;
+
 const ROUTE_REFRESH: u8 = 5;
 
 fn is_marker(bytes: &[u8]) -> bool
@@ -56,7 +60,14 @@ fn read_open(body: Cursor, size: u16) -> Result<(), Place>
 
 // The message of a type, behind its header.
 #[tactic(auto, unfolding(nr_spec_bgp::specs::Messages::body_at))]
-fn read_body<'a>(body: Cursor<'a>, as4: bool, size: u16, size_at: u64, kind: u8, kind_at: u64) -> Result<Message<'a>, Place>
+fn read_body<'a>(
+    body: Cursor<'a>,
+    as4: bool,
+    size: u16,
+    size_at: u64,
+    kind: u8,
+    kind_at: u64,
+) -> Result<Message<'a>, Place>
     ensures { Tells result (body_at as4 size size_at kind kind_at body.entry) }
 {
     match kind {

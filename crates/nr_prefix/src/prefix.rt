@@ -2,7 +2,7 @@
 
 ghost use Rattle.std.specs.Prelude.{◌≡◌, ◌<◌, ◌≤◌, ◌^◌, IfSome, IfNone, is_some, nat_le};
 ghost use Rattle.std.specs.declared.cmp.Ordering.{Ordering};
-ghost use Rattle.nr_spec_bgp.specs.Prefixes.{front, masked, covers, comes_before};
+ghost use Rattle.nr_spec_bgp.specs.Prefixes.{IsCidr, front, masked, covers, comes_before};
 
 use std::marker::Model;
 
@@ -74,6 +74,7 @@ impl Prefix {
     pub fn len(&self) -> u8
         ensures value { result ≡ self.now.len }
         ensures bound { result ≤ 32 }
+        ensures cidr { IsCidr self.now }
     {
         self.len
     }
