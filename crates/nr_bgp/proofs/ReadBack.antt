@@ -15,49 +15,18 @@ use Rattle.nr_spec_wire.specs.Reading.{Spot, Read, ◌>>=◌, start_of, number_a
 use Rattle.nr_spec_bgp.specs.Attributes.{Attribute, AttributeBlock, attributes_in, block_at, is_complete}
 use Rattle.nr_spec_bgp.specs.Messages.{Updates, KeepsAlive, cidrs_at, cidrs_bytes, sized, sized_part_at, update_at, update_body, update_bytes, keepalive_bytes, message_bytes, body_at, message_at, message_of}
 use Rattle.nr_spec_bgp.proofs.Walks.{all_end}
+use Rattle.nr_spec_bgp.proofs.Back.{spot, then_back, number_back, byte_back, bytes_back, part_back, wants_back}
 use Rattle.nr_spec_bgp.proofs.Alike.{same_block}
 use Rattle.nr_bgp.specs.Writing.{ReadsBack}
 use Rattle.nr_bgp.proofs.PrefixWalk.{goes_on, all_of}
 use Rattle.nr_bgp.proofs.Lengths.{length_message, length_update}
-
-abbrev pub spot : ℕ → List ℕ → Spot
-spot at rest = record { at = at; rest = rest }
-
--- ---- fields
-
-enough : (xs more : List ℕ) (n : ℕ) → length xs ≡ n → ltb (length (xs ++ more)) n ≡ false
-enough xs more n e = le-ltb _ _ (omega (arith, length-append xs more))
-
-pub number_back : (n x at : ℕ) (more : List ℕ) → x < 256 ^ n → number_at n (spot at (big_bytes n x ++ more)) ≡ Ok (x, spot (at + n) more)
-number_back n x at more small =
-    let len = length-bytes_high_first n x in
-    rw (enough (big_bytes n x) more n len, big_number-reads_back n x more small, drop_at (big_bytes n x) more n len) refl
-
-pub bytes_back : (n at : ℕ) (xs more : List ℕ) → length xs ≡ n → bytes_at n (spot at (xs ++ more)) ≡ Ok (xs, spot (at + n) more)
-bytes_back n at xs more len = rw (enough xs more n len, take_at xs more n len, drop_at xs more n len) refl
-
-pub part_back : (n at : ℕ) (xs more : List ℕ) → length xs ≡ n → part_at n (spot at (xs ++ more)) ≡ Ok (spot at xs, spot (at + n) more)
-part_back n at xs more len = rw (enough xs more n len, take_at xs more n len, drop_at xs more n len) refl
-
-then_back : {A B : Type 0} (r : Result A ℕ) (f : A → Result B ℕ) (x : A) (y : Result B ℕ) → r ≡ Ok x → f x ≡ y → (r >>= f) ≡ y
-then_back r f x y e g = ap (λ q. q >>= f) e ∙ g
 
 pub sized_back : (at : ℕ) (xs more : List ℕ) → length xs < 256 ^ 2 → sized_part_at (spot at (sized xs ++ more)) ≡ Ok (spot (at + 2) xs, spot (at + 2 + length xs) more)
 sized_back at xs more small =
     then_back (number_at 2 (spot at (sized xs ++ more))) (λ size. faults_at at (part_at size.0 size.1)) (length xs, spot (at + 2) (xs ++ more)) _ (number_back 2 (length xs) at (xs ++ more) small)
     (ap (λ (r : Read Spot). faults_at at r) (part_back (length xs) (at + 2) xs more refl))
 
-pub byte_back : (b at : ℕ) (more : List ℕ) → number_at 1 (spot at (b ∷ more)) ≡ Ok (b, spot (at + 1) more)
-byte_back b at more =
-    let some : ltb (length (b ∷ more)) 1 ≡ false = le-ltb (length (b ∷ more)) 1 (omega arith) in
-    let value : b * 1 + 0 ≡ b = omega arith in
-    rw (some, value) refl
-
 -- ---- the header
-
-wants_back : {A : Type 0} (b : Bool) (place : ℕ) (x : A) → b ≡ true → wants b place x ≡ Ok x
-wants_back true place x e = refl
-wants_back false place x e = absurd cc
 
 both_true : (a b : Bool) → a ≡ true → b ≡ true → (a && b) ≡ true
 both_true true true p q = refl

@@ -1,5 +1,5 @@
 -- All that is left, as the bytes up to the end.
-use Rattle.std.proofs.Common.{◌≡◌, ℕ, ◌-◌, ◌≤◌, List, length, take, arith}
+use Rattle.std.proofs.Common.{◌≡◌, ◌-◌, length, arith}
 use Rattle.std.proofs.lemmas.List.{take_all}
 use Rattle.nr_spec_wire.specs.Reading.{Spot, between}
 

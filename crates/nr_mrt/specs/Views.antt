@@ -1,5 +1,5 @@
 -- What this crate's types stand for in the definitions.
-use Rattle.std.specs.Prelude.{◌≡◌, ℕ, ◌<◌, List, length, Option, Some, None, Result, Ok, Err}
+use Rattle.std.specs.Prelude.{◌≡◌, ◌<◌, length, Option, Some, None, Result}
 use Rattle.nr_bytes.specs.declared.fault.Place.{Place}
 use Rattle.nr_bytes.specs.Views.{offset_of}
 use Rattle.nr_spec_wire.specs.Reading.{Spot, Gives}

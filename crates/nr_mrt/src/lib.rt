@@ -4,8 +4,8 @@
 
 mod item;
 mod record;
-
+mod write;
 
 pub use item::MrtItem;
 pub use record::next;
-
+pub use write::write_message;

@@ -11,7 +11,9 @@ use crate::item::MrtItem;
 use nr_bytes::{Cursor, Place};
 
 const BGP4MP: u16 = 16;
+
 const BGP4MP_ET: u16 = 17;
+
 const IPV4: u16 = 1;
 
 fn is_session(kind: u16) -> bool
@@ -125,7 +127,12 @@ fn rest<'a>(mut cursor: Cursor<'a>) -> &'a [u8]
 }
 
 #[tactic(auto, unfolding(nr_spec_bgp::specs::Records::heard_at))]
-fn read_message<'a>(body: Cursor<'a>, subtype: u16, time: u64, peer_as: u32) -> Result<MrtItem<'a>, Place>
+fn read_message<'a>(
+    body: Cursor<'a>,
+    subtype: u16,
+    time: u64,
+    peer_as: u32,
+) -> Result<MrtItem<'a>, Place>
     requires { length body.rest < 2 ^ 32 }
     ensures { Answers item_of offset_of result (heard_at subtype time peer_as body.entry) }
 {
@@ -142,7 +149,12 @@ fn read_message<'a>(body: Cursor<'a>, subtype: u16, time: u64, peer_as: u32) -> 
 }
 
 #[tactic(auto, unfolding(nr_spec_bgp::specs::Records::session_at))]
-fn read_session<'a>(body: Cursor<'a>, seconds: u32, kind: u16, subtype: u16) -> Result<MrtItem<'a>, Place>
+fn read_session<'a>(
+    body: Cursor<'a>,
+    seconds: u32,
+    kind: u16,
+    subtype: u16,
+) -> Result<MrtItem<'a>, Place>
     requires { length body.rest < 2 ^ 32 }
     ensures { Answers item_of offset_of result (session_at seconds kind subtype body.entry) }
 {
@@ -160,7 +172,12 @@ fn read_session<'a>(body: Cursor<'a>, seconds: u32, kind: u16, subtype: u16) -> 
     }
 }
 
-fn read_item<'a>(body: Cursor<'a>, seconds: u32, kind: u16, subtype: u16) -> Result<MrtItem<'a>, Place>
+fn read_item<'a>(
+    body: Cursor<'a>,
+    seconds: u32,
+    kind: u16,
+    subtype: u16,
+) -> Result<MrtItem<'a>, Place>
     requires { length body.rest < 2 ^ 32 }
     ensures { Answers item_of offset_of result (item_at seconds kind subtype body.entry) }
 {

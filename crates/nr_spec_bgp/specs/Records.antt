@@ -112,9 +112,12 @@ pub record Ends : Type 0 where
   pub peer : ℕ
   pub own : ℕ
 
-abbrev pub body_bytes : ℕ → Ends → List ℕ → List ℕ
-body_bytes micros e raw =
-    big_bytes 4 micros ++ big_bytes 4 e.peer_as ++ big_bytes 4 e.own_as ++ big_bytes 2 0 ++ big_bytes 2 1 ++ big_bytes 4 e.peer ++ big_bytes 4 e.own ++ raw
+-- the fields of the body up to the message: the interface is 0 and the family IPv4
+unfoldable pub session_bytes : Ends → List ℕ
+session_bytes e = big_bytes 4 e.peer_as ++ big_bytes 4 e.own_as ++ big_bytes 2 0 ++ big_bytes 2 1 ++ big_bytes 4 e.peer ++ big_bytes 4 e.own
+
+unfoldable pub body_bytes : ℕ → Ends → List ℕ → List ℕ
+body_bytes micros e raw = big_bytes 4 micros ++ session_bytes e ++ raw
 
 abbrev pub record_bytes : ℕ → Bool → Ends → List ℕ → List ℕ
 record_bytes time sent e raw =
