@@ -1,0 +1,4 @@
+pub mod PrefixWalk
+pub mod Lengths
+pub mod Elements
+pub mod ReadBack

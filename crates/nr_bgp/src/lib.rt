@@ -1,0 +1,12 @@
+//! BGP messages (RFC 4271): what a message says, as a view that borrows its bytes, and the messages that are
+//! written. Reading copies nothing and allocates nothing.
+#![tactic(auto)]
+
+mod message;
+mod prefixes;
+mod update;
+mod write;
+
+pub use message::{Message, read};
+pub use prefixes::Prefixes;
+pub use update::Update;

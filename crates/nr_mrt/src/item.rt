@@ -1,0 +1,27 @@
+//! What a record holds.
+
+/// A record. Times are in microseconds since 1970 began.
+#[derive(Clone, Copy, Debug)]
+pub enum MrtItem<'a> {
+    /// A message of a session (RFC 6396, sections 4.4.2 to 4.4.4).
+    Message {
+        time: u64,
+        peer_as: u32,
+        peer: u32,
+        /// Whether the recording router sent it itself.
+        local: bool,
+        /// Whether AS numbers have four bytes in it.
+        as4: bool,
+        raw: &'a [u8],
+    },
+    /// A change of a session's state (section 4.4.1).
+    State {
+        time: u64,
+        peer_as: u32,
+        peer: u32,
+        old: u16,
+        new: u16,
+    },
+    /// A record of another type, subtype or family.
+    Skipped,
+}

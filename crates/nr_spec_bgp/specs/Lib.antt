@@ -1,0 +1,6 @@
+pub mod Prefixes
+pub mod PrefixText
+pub mod Paths
+pub mod Attributes
+pub mod Messages
+pub mod Records
