@@ -1,13 +1,9 @@
 -- What this crate's types stand for in the definitions.
 use Rattle.std.specs.Prelude.{ℕ, List, Option, None, Some}
-use Rattle.nr_spec_log.specs.Authenticator.{Signature, Authenticator, Head}
-use Rattle.nr_answer.specs.declared.signature.Sig as declared_sig
+use Rattle.nr_spec_log.specs.Authenticator.{Authenticator, Head}
+use Rattle.nr_merkle.specs.Views.{signature_of}
 use Rattle.nr_answer.specs.declared.auth.Auth as declared_auth
 use Rattle.nr_answer.specs.declared.auth.Wanted as declared_wanted
-
--- a signature without where it lies in memory
-abbrev pub signature_of : declared_sig.Sig → Signature
-signature_of s = record { leaf = s.leaf; height = s.height; pairs = s.pairs.now; path = s.path.now }
 
 -- an authenticator as its fields
 abbrev pub auth_of : declared_auth.Auth → Authenticator

@@ -1,15 +1,18 @@
 //! Authenticators.
 
-ghost use Rattle.std.specs.Prelude.{◌≡◌, ◌==◌, IfOk, Option, None, Some};
+ghost use Rattle.std.specs.Prelude.{◌≡◌, ◌≤◌, ◌==◌, ◌++◌, ◌↔◌, IsTrue, IfOk, Option, None, Some, length, drop};
+ghost use Rattle.byteorder.specs.Endian.{big_bytes};
 ghost use Rattle.nr_spec_wire.specs.Reading.{Reads, Gives, IsOnward, between};
-ghost use Rattle.nr_spec_log.specs.Authenticator.{wanted_at, authenticator_at, is_asn_of, is_seq_of, is_time_of};
+ghost use Rattle.nr_spec_log.specs.Authenticator.{wanted_at, authenticator_at, signed_body, is_asn_of, is_seq_of, is_time_of};
+ghost use Rattle.nr_spec_keys.specs.Trees.{IsSigned};
 ghost use Rattle.nr_bytes.specs.Views.{offset_of};
 ghost use Rattle.nr_answer.specs.Views.{auth_of, wanted_of};
 
 use crate::fields::read_digest;
-use crate::signature::{Sig, read_signature};
+use byteorder::{BigEndian, ByteOrder};
 use nr_bytes::{Cursor, Place};
 use nr_chain::Digest;
+use nr_merkle::{Sig, verify};
 
 /// A signed statement that entry `seq` of the log of AS `asn` has this time, in microseconds, and this
 /// chain value. `whole` are the bytes that it was read from.
@@ -19,8 +22,8 @@ pub struct Auth<'a> {
     pub seq: u64,
     pub time: u64,
     pub hash: Digest,
+    pub sig: Sig<'a>,
     pub whole: &'a [u8],
-    sig: Sig<'a>,
 }
 
 /// The entry that an authenticator has to speak of.
@@ -58,6 +61,26 @@ fn is_wanted_time(wanted: Option<Wanted>, time: u64) -> bool
     }
 }
 
+// A number and what follows it.
+fn put_front(out: &mut [u8], asn: u32, seq: u64)
+    requires { 12 ≤ length out.old }
+    ensures { out.new ≡ (big_bytes 4 asn ++ big_bytes 8 seq) ++ drop 12 out.old }
+{
+    BigEndian::write_u32(out, asn);
+    BigEndian::write_u64(&mut out[4..], seq);
+}
+
+// The bytes that are signed.
+fn body_of(asn: u32, seq: u64, time: u64, hash: &Digest) -> [u8; 52]
+    ensures { result ≡ big_bytes 4 asn ++ (big_bytes 8 seq ++ (big_bytes 8 time ++ hash.now.0)) }
+{
+    let mut body = [0u8; 52];
+    put_front(&mut body, asn, seq);
+    BigEndian::write_u64(&mut body[12..], time);
+    body[20..].copy_from_slice(&hash.0);
+    body
+}
+
 /// An authenticator that speaks of the wanted entry. A fault may leave the cursor anywhere.
 #[tactic(auto, unfolding(nr_spec_log::specs::Authenticator::wanted_at))]
 pub fn read_wanted<'a>(cursor: &mut Cursor<'a>, wanted: Option<Wanted>) -> Result<Auth<'a>, Place>
@@ -81,15 +104,15 @@ pub fn read_wanted<'a>(cursor: &mut Cursor<'a>, wanted: Option<Wanted>) -> Resul
         return Err(Place(at));
     }
     let hash = read_digest(cursor)?;
-    let sig = read_signature(cursor)?;
+    let sig = Sig::read(cursor)?;
     let whole = cursor.since(&start);
     Ok(Auth {
         asn,
         seq,
         time,
         hash,
-        whole,
         sig,
+        whole,
     })
 }
 
@@ -104,5 +127,13 @@ impl<'a> Auth<'a> {
         let auth = read_wanted(&mut ahead, None)?;
         *cursor = ahead;
         Ok(auth)
+    }
+
+    /// Whether it is signed under a root: its signature signs its AS, seq, time and hash.
+    pub fn signed(&self, root: &Digest) -> bool
+        ensures { IsTrue result ↔ IsSigned root.now.0 (signed_body (auth_of self.now)) (auth_of self.now).sig }
+    {
+        let body = body_of(self.asn, self.seq, self.time, &self.hash);
+        verify(root, &body, &self.sig)
     }
 }

@@ -9,7 +9,6 @@ mod auths;
 mod entries;
 mod fields;
 mod opening;
-mod signature;
 
 pub use answer::Answer;
 pub use auth::Auth;
