@@ -1,0 +1,55 @@
+#!/usr/bin/env python3
+"""Writes the files of this folder anew, from the formats alone: an answer, and authenticators of its network.
+
+The network AS 64500 answers with a log of four entries. A neighbour holds two authenticators that the
+network signed: one of entry 3 as it stands in the answer, and one of another entry 3, with another message. The
+network kept two logs, and the second authenticator shows it.
+"""
+
+import os
+import struct
+import sys
+
+HERE = os.path.dirname(os.path.abspath(__file__))
+sys.path.insert(0, os.path.join(HERE, "..", "bench"))
+
+import keys
+import logs
+
+AS = 64500
+PROMISES = b"network 64500; commit 60;\n"
+SECOND = 1_000_000
+
+
+def sent(last_byte):
+    """A SEND to neighbour 0 of a message that withdraws 10.x.0.0/16, where x is this byte."""
+    message = b"\xff" * 16 + struct.pack(">HBH", 26, 2, 3) + bytes([16, 10, last_byte]) + b"\0\0"
+    return struct.pack(">HB", 0, 1) + message
+
+
+def log_of(last_byte):
+    """The log of the network, with this message as its third entry."""
+    log = logs.Log(AS)
+    log.add(0, logs.PROMISE, logs.promise(PROMISES, 1, 60))
+    log.add(5 * SECOND, 1, sent(1))
+    log.add(6 * SECOND, 1, sent(last_byte))
+    log.add(9 * SECOND, logs.COMMIT, logs.commit(logs.AUDITOR, 0))
+    return log
+
+
+def main():
+    tree = keys.Tree(bytes(range(32)), 2)
+    shown, hidden = log_of(2), log_of(3)
+    answer = shown.answer(lambda body: tree.sign(0, body))
+    auths = logs.authenticators([
+        shown.authenticator(3, lambda body: tree.sign(1, body)),
+        hidden.authenticator(3, lambda body: tree.sign(2, body)),
+    ])
+    for name, data in (("answer", answer), ("auths", auths)):
+        with open(os.path.join(HERE, name), "wb") as file:
+            file.write(data)
+    print("conflict 3 %d %s" % (6 * SECOND, hidden.values[3].hex()))
+
+
+if __name__ == "__main__":
+    main()
