@@ -1,12 +1,11 @@
 -- A leaf's secrets, read pair by pair.
-use Rattle.std.proofs.Common.{◌≡◌, ◌⊎◌, ℕ, ◌+◌, ◌-◌, ◌*◌, ◌/◌, ◌%◌, ◌^◌, ◌<◌, List, ◌∷◌, ◌++◌, length, take, refl, sym, ap, ◌∙◌, append_assoc, arith, inl, inr}
+use Rattle.std.proofs.Common.{◌≡◌, ◌⊎◌, ℕ, ◌+◌, ◌-◌, ◌*◌, ◌/◌, ◌%◌, ◌^◌, ◌<◌, List, ◌∷◌, ◌++◌, refl, sym, ap, ◌∙◌, arith, inl, inr}
 use Rattle.std.specs.Prelude.{◌==◌, if◌then◌else◌, slice_index}
-use Rattle.std.proofs.lemmas.List.{append-nil, length-append, take-take, take_at}
 use Rattle.rand_chacha.specs.ChaCha.{ChaCha, key_of}
 use Rattle.sha2.specs.Sha256.{sha256}
 use Rattle.nr_spec_keys.specs.Pieces.{joined}
 use Rattle.nr_spec_keys.specs.OneTime.{words_of, secret_of, public_of, publics_of, bit_of, shown_of}
-use Rattle.nr_spec_keys.proofs.PieceLemmas.{joined-none, joined-more}
+use Rattle.nr_spec_keys.proofs.PieceLemmas.{joined-more}
 use Rattle.nr_spec_keys.proofs.LeafLemmas.{one_or_zero}
 
 -- the stream of a leaf before pair i

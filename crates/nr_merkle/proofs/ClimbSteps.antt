@@ -1,5 +1,5 @@
 -- Climbing a path level by level.
-use Rattle.std.proofs.Common.{◌≡◌, ℕ, ◌+◌, ◌*◌, ◌/◌, ◌%◌, ◌^◌, List, take, drop, bit_and, refl, sym, ap, ◌∙◌, add-one}
+use Rattle.std.proofs.Common.{◌≡◌, ℕ, ◌+◌, ◌/◌, ◌%◌, ◌^◌, List, bit_and, refl, sym, ap, ◌∙◌, add-one}
 use Rattle.std.proofs.lemmas.Nat.{and_mask}
 use Rattle.nr_spec_keys.specs.Pieces.{piece_of}
 use Rattle.nr_spec_keys.specs.OneTime.{beside}

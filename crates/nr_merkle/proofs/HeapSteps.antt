@@ -1,8 +1,8 @@
 -- A tree in one list, made and read node by node.
-use Rattle.std.proofs.Common.{◌≡◌, ◌≢◌, ◌⊎◌, ℕ, zero, suc, ◌+◌, ◌-◌, ◌*◌, ◌^◌, ◌<◌, ◌≤◌, List, [], ◌∷◌, ◌++◌, length, get_or, set, take, drop, refl, sym, ap, ◌∙◌, arith, inl, inr}
+use Rattle.std.proofs.Common.{◌≡◌, ℕ, zero, suc, ◌+◌, ◌-◌, ◌*◌, ◌^◌, ◌<◌, ◌≤◌, List, [], ◌++◌, length, get_or, set, drop, sym, ap, ◌∙◌, arith, inl, inr}
 use Rattle.std.proofs.Math.Nat.{pow-le-pow_right}
 use Rattle.std.proofs.lemmas.Bool.{cases_lt}
-use Rattle.std.proofs.lemmas.List.{get_or-drop, get_or-set_same, get_or-set_other, drop-set-lt}
+use Rattle.std.proofs.lemmas.List.{get_or-drop, get_or-set_same, get_or-set_other}
 use Rattle.std.proofs.lemmas.Nat.{pow_pos}
 use Rattle.nr_spec_keys.specs.Trees.{KeyTree, node, node_at}
 use Rattle.nr_spec_keys.proofs.TreeLemmas.{pow-more}
@@ -45,9 +45,9 @@ node_at-heap height nodes joined (suc level) depth n is lt =
     let more = pow-more depth in
     let made = joined (2 ^ depth + n) (omega (arith, pow_pos depth)) (above_leaves height level depth n is lt) in
     let left : get_or nodes (2 * (2 ^ depth + n)) [] ≡ node_at (drop (2 ^ height) nodes) level (2 * n) =
-        ap (λ (i : ℕ). get_or nodes i []) (omega arith) ∙ node_at-heap height nodes joined level (suc depth) (2 * n) (omega arith) (omega arith) in
+    ap (λ (i : ℕ). get_or nodes i []) (omega arith) ∙ node_at-heap height nodes joined level (suc depth) (2 * n) (omega arith) (omega arith) in
     let right : get_or nodes (2 * (2 ^ depth + n) + 1) [] ≡ node_at (drop (2 ^ height) nodes) level (2 * n + 1) =
-        ap (λ (i : ℕ). get_or nodes i []) (omega arith) ∙ node_at-heap height nodes joined level (suc depth) (2 * n + 1) (omega arith) (omega arith) in
+    ap (λ (i : ℕ). get_or nodes i []) (omega arith) ∙ node_at-heap height nodes joined level (suc depth) (2 * n + 1) (omega arith) (omega arith) in
     made ∙ ap (λ (xs : List ℕ). node (xs ++ get_or nodes (2 * (2 ^ depth + n) + 1) [])) left
     ∙ ap (λ (xs : List ℕ). node (node_at (drop (2 ^ height) nodes) level (2 * n) ++ xs)) right
 

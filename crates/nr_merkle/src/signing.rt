@@ -33,7 +33,13 @@ impl Tree {
         Ok(())
     }
 
-    fn put_signature(&self, seed: &Seed, leaf: u32, body: &[u8], out: &mut Vec<u8>) -> Result<(), Memory>
+    fn put_signature(
+        &self,
+        seed: &Seed,
+        leaf: u32,
+        body: &[u8],
+        out: &mut Vec<u8>,
+    ) -> Result<(), Memory>
         requires of_seed { self.now ≡ tree_of seed.now.0 self.now.height }
         requires in_tree { leaf < 2 ^ self.now.height }
         ensures ok { OnOk result (out.new.items ≡ out.old.items ++ signature (signature_by seed.now.0 self.now.height leaf body.now)) }

@@ -1,7 +1,7 @@
-use Rattle.std.proofs.Common.{◌≡◌, ℕ, ◌+◌, ◌^◌, ◌<◌, List, length, drop, ap, arith, ◌∙◌}
+use Rattle.std.proofs.Common.{◌≡◌, ◌+◌, ◌^◌, drop, ap, arith, ◌∙◌}
 use Rattle.std.proofs.lemmas.List.{get_or_read}
 use Rattle.nr_spec_keys.specs.Trees.{KeyTree}
-use Rattle.nr_merkle.proofs.HeapSteps.{IsRead, is_read}
+use Rattle.nr_merkle.proofs.HeapSteps.{is_read}
 use Rattle.nr_merkle.proofs.tree.Tree.node.Goals as goal
 
 pub index-requires : goal.index-requires

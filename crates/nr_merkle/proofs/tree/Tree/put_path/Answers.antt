@@ -1,4 +1,4 @@
-use Rattle.std.proofs.Common.{◌≡◌, ℕ, ◌-◌, ◌/◌, ◌^◌, ◌<◌, List, ◌++◌, ap, ◌∙◌, arith}
+use Rattle.std.proofs.Common.{◌≡◌, ℕ, ◌/◌, ◌^◌, ◌<◌, ◌++◌, ap, ◌∙◌, arith}
 use Rattle.nr_spec_keys.specs.Pieces.{joined}
 use Rattle.nr_spec_keys.specs.Trees.{node_at, sibling, path_of}
 use Rattle.nr_spec_keys.proofs.PieceLemmas.{appends-none, appends-more}

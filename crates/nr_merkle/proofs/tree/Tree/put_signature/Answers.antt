@@ -1,7 +1,6 @@
-use Rattle.std.proofs.Common.{◌≡◌, ℕ, List, ◌++◌, length, take, sym, ap, ◌∙◌}
+use Rattle.std.proofs.Common.{◌≡◌, ℕ, List, ◌++◌, ap, ◌∙◌}
 use Rattle.std.proofs.lemmas.Result.{on_ok_weaker, on_err_weaker}
 use Rattle.byteorder.specs.Endian.{big_bytes}
-use Rattle.nr_spec_log.specs.Authenticator.{signature}
 use Rattle.nr_spec_keys.specs.OneTime.{pairs_of}
 use Rattle.nr_spec_keys.specs.Trees.{KeyTree, tree_of, path_of, signed_digest_of, signature_by}
 use Rattle.nr_spec_keys.proofs.PieceLemmas.{appended, appended_three, front-stays}
@@ -17,10 +16,10 @@ returns-clause-ok c =
     let path_field : path_of tree c.args.leaf ≡ path_of (tree_of seed tree.height) c.args.leaf = ap (λ (t : KeyTree). path_of t c.args.leaf) c.requires.of_seed in
     on_ok_weaker c.put_path.result
     (λ path_is. appended c.args.out.now.items _ _ _ _ (big_bytes 4 c.args.leaf) (big_bytes 1 tree.height) (pairs_of seed c.args.leaf (signed_digest_of c.args.body.now)) (path_of (tree_of seed tree.height) c.args.leaf)
-      c.in_ok-put_u32.ensures.ok
-      (c.in_ok-put_u8.ensures.ok ∙ ap (λ (xs : List ℕ). c.put_u32.new.out.items ++ xs) height_field)
-      (c.in_ok-sign.ensures.ok ∙ ap (λ (xs : List ℕ). c.put_u8.new.out.items ++ xs) pairs_field)
-      (path_is ∙ ap (λ (xs : List ℕ). c.sign.new.out.items ++ xs) path_field))
+    c.in_ok-put_u32.ensures.ok
+    (c.in_ok-put_u8.ensures.ok ∙ ap (λ (xs : List ℕ). c.put_u32.new.out.items ++ xs) height_field)
+    (c.in_ok-sign.ensures.ok ∙ ap (λ (xs : List ℕ). c.put_u8.new.out.items ++ xs) pairs_field)
+    (path_is ∙ ap (λ (xs : List ℕ). c.sign.new.out.items ++ xs) path_field))
     c.put_path.ensures.ok
 
 pub returns-clause-memory : goal.returns-clause-memory

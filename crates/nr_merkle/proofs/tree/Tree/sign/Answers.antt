@@ -1,7 +1,7 @@
-use Rattle.std.proofs.Common.{◌≡◌, ℕ, ◌+◌, ◌^◌, ◌<◌, ◌≤◌, List, [], ◌++◌, length, drop, Result, Ok, refl, sym, ap, ◌∙◌, zero-add}
+use Rattle.std.proofs.Common.{◌≡◌, ℕ, ◌^◌, ◌<◌, List, [], ◌++◌, length, drop, Ok, refl, sym, ap, ◌∙◌, zero-add}
 use Rattle.std.proofs.lemmas.Result.{on_ok_weaker}
 use Rattle.std.proofs.lemmas.List.{append-nil, drop_at}
-use Rattle.nr_spec_wire.specs.Reading.{Spot, Read, start_of}
+use Rattle.nr_spec_wire.specs.Reading.{Read, start_of}
 use Rattle.nr_spec_log.specs.Authenticator.{Signature, IsSignature, signature, signature_at}
 use Rattle.nr_spec_keys.specs.Trees.{KeyTree, tree_of, root_of, signature_by, IsSigned}
 use Rattle.nr_spec_keys.proofs.TreeLemmas.{signature_by-leads, signature_by-fits}
