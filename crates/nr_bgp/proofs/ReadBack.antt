@@ -1,5 +1,5 @@
 -- What is spelled is read again.
-use Rattle.std.proofs.Common.{◌≡◌, ℕ, ◌+◌, ◌-◌, ◌*◌, ◌^◌, ◌≤◌, ◌<◌, Bool, true, false, ◌||◌, ◌&&◌, ltb, leb, eqb, List, [], ◌∷◌, ◌++◌, length, All, take, Result, Ok, refl, sym, ap, ◌∙◌, arith, append_assoc, length-append, length-take, inl, inr, ◌⊎◌}
+use Rattle.std.proofs.Common.{◌≡◌, ℕ, ◌+◌, ◌-◌, ◌*◌, ◌^◌, ◌≤◌, ◌<◌, Bool, true, false, ◌||◌, ◌&&◌, leb, eqb, List, [], ◌∷◌, ◌++◌, length, All, take, Ok, refl, sym, ap, ◌∙◌, arith, append_assoc, length-take, inl, inr, ◌⊎◌}
 use Rattle.std.specs.Prelude.{replicate}
 use Rattle.std.specs.List.{AllByRecursion}
 use Rattle.std.proofs.Math.Nat.{mul_assoc}
@@ -7,11 +7,9 @@ use Rattle.std.proofs.lemmas.Nat.{pow-add}
 use Rattle.std.proofs.lemmas.List.Elements.{recursion_from_All}
 use Rattle.std.proofs.lemmas.List.Concat.{flat_map-cons}
 use Rattle.nr_spec_bgp.specs.Prefixes.{Cidr, IsCidr, front, masked, faults_at, bytes_for, address_of, cidr_at, cidr_bytes}
-use Rattle.std.proofs.lemmas.Bool.{cases_lt, le-ltb, le-leb, eq-eqb}
-use Rattle.std.proofs.lemmas.List.{take_at, drop_at}
+use Rattle.std.proofs.lemmas.Bool.{cases_lt, le-leb, eq-eqb}
 use Rattle.byteorder.specs.Endian.{big_bytes}
-use Rattle.byteorder.specs.Numbers.{big_number-reads_back, length-bytes_high_first}
-use Rattle.nr_spec_wire.specs.Reading.{Spot, Read, ◌>>=◌, start_of, number_at, bytes_at, part_at, wants}
+use Rattle.nr_spec_wire.specs.Reading.{Spot, Read, start_of, number_at, bytes_at, part_at, wants}
 use Rattle.nr_spec_bgp.specs.Attributes.{Attribute, AttributeBlock, attributes_in, block_at, is_complete}
 use Rattle.nr_spec_bgp.specs.Messages.{Updates, KeepsAlive, cidrs_at, cidrs_bytes, sized, sized_part_at, update_at, update_body, update_bytes, keepalive_bytes, message_bytes, body_at, message_at, message_of}
 use Rattle.nr_spec_bgp.proofs.Walks.{all_end}
