@@ -22,13 +22,7 @@ fn is_auth_presented(asn: u32, period: &Period, auth: &Auth<'_>) -> bool
 }
 
 /// Whether an authenticator is presented and no entry is the one that it states.
-fn is_in_conflict(
-    asn: u32,
-    first: u64,
-    period: &Period,
-    links: &Links,
-    auth: &Auth<'_>,
-) -> bool
+fn is_in_conflict(asn: u32, first: u64, period: &Period, links: &Links, auth: &Auth<'_>) -> bool
     requires { IsNumbered first (links_in links.now) }
     ensures { result ≡ is_conflict asn (period_of period.now) (links_in links.now) (auth_of auth.now) }
 {

@@ -12,20 +12,18 @@ mod refusal;
 mod request;
 mod run;
 mod system;
-
-
 #[cfg(test)]
 mod tests;
 
 use run::run;
-use std::env;
-use std::io;
 use std::io::ErrorKind;
 use std::process::ExitCode;
+use std::{env, io};
 use system::{Output, SystemFiles};
 
 // The statuses where memory ran out before there were words, and where the system gives none.
 const MEMORY: u8 = 6;
+
 const NO_WORDS: u8 = 8;
 
 fn words_of(rt: &HostRuntime) -> io::Result<Vec<String>> {

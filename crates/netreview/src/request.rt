@@ -93,10 +93,7 @@ fn audit_words<'a>(alloc: Global, words: &'a [String]) -> Result<Option<Request<
 
 /// What the words ask for. `None` exactly where they aren't taken.
 #[tactic(auto, unfolding(crate::specs::Words::request_in))]
-pub fn request_from<'a>(
-    alloc: Global,
-    words: &'a [String],
-) -> Result<Option<Request<'a>>, Memory>
+pub fn request_from<'a>(alloc: Global, words: &'a [String]) -> Result<Option<Request<'a>>, Memory>
     ensures { IfOk result (λ request. option_map request_of request ≡ request_in (map string_bytes words.now)) }
 {
     let Some(command) = words.first() else {

@@ -72,12 +72,7 @@ fn run_audit<F: Files, S: Sink>(
 
 /// Runs the command that the words after the program's name ask for, and answers the status. Signatures
 /// aren't checked yet, and no promise file is read: an authenticator accuses by what it states alone.
-pub fn run<F: Files, S: Sink>(
-    alloc: Global,
-    words: &[String],
-    files: &mut F,
-    out: &mut S,
-) -> u8
+pub fn run<F: Files, S: Sink>(alloc: Global, words: &[String], files: &mut F, out: &mut S) -> u8
     // One ending is offered: the one that the words and the files give, where these tell what they hold,
     // or that of a read fault, or that of want of memory. The sink has it whole, unless it failed or found no
     // memory.

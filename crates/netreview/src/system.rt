@@ -4,11 +4,10 @@ ghost use Rattle.std.specs.Prelude.{◌≡◌, ◌≤◌, length, IfOk, None};
 
 use nr_ports::{Failed, Files, Sink, WriteFault};
 use std::alloc::Global;
-use std::fs;
 use std::fs::{OpenFile, OpenOptions};
-use std::io;
 use std::io::{ErrorKind, Read, Seek, SeekFrom, Write};
 use std::rt::Files as Disk;
+use std::{fs, io};
 
 // A file that is open for reading, and the name under which it was opened.
 #[derive(Drop)]

@@ -13,6 +13,7 @@ const T0: &[u8; 26] = b"network 64500; commit 60;\n";
 // The chain values of entries 1 and 2 of the smallest log, and of entry 2 where entry 1 has the time 1:
 // computed from their definition by another program.
 const SECOND: &str = "7bc86539f23b7de5009eb67b51d7faebe17048c1976906c8936419ad530a37fe";
+
 const OTHER_SECOND: &str = "132dc96771ebc251885153eb4515fa0132579ea162f0a94dc45c165f4f8aff59";
 
 fn sized(bytes: &[u8]) -> [u8; 32] {
@@ -89,18 +90,14 @@ fn words_of(alloc: Global, words: &[&str]) -> Result<Vec<String>, AllocError> {
 fn audit_words(alloc: Global, from: &str, to: &str) -> Result<Vec<String>, AllocError> {
     words_of(
         alloc,
-        &["audit", "--answer", "a", "--auths", "t", "--from", from, "--to", to],
+        &[
+            "audit", "--answer", "a", "--auths", "t", "--from", from, "--to", to,
+        ],
     )
 }
 
 // Whether a run over these files gives this status and this text.
-fn gives<F: Files>(
-    alloc: Global,
-    words: &[String],
-    files: &mut F,
-    status: u8,
-    text: &str,
-) -> bool {
+fn gives<F: Files>(alloc: Global, words: &[String], files: &mut F, status: u8, text: &str) -> bool {
     let mut out = MemSink::new(alloc);
     let answered = run(alloc, words, files, &mut out);
     answered == status && out.bytes() == text.as_bytes()
@@ -120,11 +117,43 @@ fn answers_with_ample_memory(rt: HostRuntime) -> Result<(), Fail> {
     let alloc = rt.alloc();
     let mut files = row_files(alloc)?;
     assert_eq!(rt; smallest(alloc)?.len(), 16_592);
-    assert!(rt; gives(alloc, audit_words(alloc, "0", "0")?.as_slice(), &mut files, 0, "clean\n"));
-    assert!(rt; gives(alloc, audit_words(alloc, "0", "1")?.as_slice(), &mut files, 7, "refused short 1 1\n"));
-    assert!(rt; gives(alloc, audit_words(alloc, "2", "1")?.as_slice(), &mut files, 2, "usage\n"));
+    assert!(rt;
+        gives(
+            alloc,
+            audit_words(alloc, "0", "0")?.as_slice(),
+            &mut files,
+            0,
+            "clean\n"
+        )
+    );
+    assert!(rt;
+        gives(
+            alloc,
+            audit_words(alloc, "0", "1")?.as_slice(),
+            &mut files,
+            7,
+            "refused short 1 1\n"
+        )
+    );
+    assert!(rt;
+        gives(
+            alloc,
+            audit_words(alloc, "2", "1")?.as_slice(),
+            &mut files,
+            2,
+            "usage\n"
+        )
+    );
     files.put("a", b"")?;
-    assert!(rt; gives(alloc, audit_words(alloc, "0", "0")?.as_slice(), &mut files, 3, "malformed answer 0\n"));
+    assert!(rt;
+        gives(
+            alloc,
+            audit_words(alloc, "0", "0")?.as_slice(),
+            &mut files,
+            3,
+            "malformed answer 0\n"
+        )
+    );
     Ok(())
 }
 
@@ -159,16 +188,35 @@ fn names_the_first_malformed_field(rt: HostRuntime) -> Result<(), Fail> {
         (174, 2, "malformed answer 175\n"),
     ] {
         files.put("a", changed(alloc, at, value)?.as_slice())?;
-        assert!(rt; gives(alloc, words.as_slice(), &mut files, 3, text), "at {at}");
+        assert!(rt;
+            gives(alloc, words.as_slice(), &mut files, 3, text),
+            "at {at}"
+        );
     }
     let mut longer = smallest(alloc)?;
     put_u8(&mut longer, 0)?;
     files.put("a", longer.as_slice())?;
-    assert!(rt; gives(alloc, words.as_slice(), &mut files, 3, "malformed answer 16592\n"));
+    assert!(rt;
+        gives(
+            alloc,
+            words.as_slice(),
+            &mut files,
+            3,
+            "malformed answer 16592\n"
+        )
+    );
     // An answer's fault goes before a fault at the reading of the authenticators.
     files.put("a", b"NRA")?;
     files.fail_call(files.calls().saturating_add(3))?;
-    assert!(rt; gives(alloc, words.as_slice(), &mut files, 3, "malformed answer 0\n"));
+    assert!(rt;
+        gives(
+            alloc,
+            words.as_slice(),
+            &mut files,
+            3,
+            "malformed answer 0\n"
+        )
+    );
     Ok(())
 }
 
@@ -192,7 +240,10 @@ fn names_the_first_malformed_field_of_authenticators(rt: HostRuntime) -> Result<
         (16_476, "malformed auths 16445\n"),
     ] {
         files.put("t", auths.get(..len).unwrap_or(&[]))?;
-        assert!(rt; gives(alloc, words.as_slice(), &mut files, 3, text), "of {len}");
+        assert!(rt;
+            gives(alloc, words.as_slice(), &mut files, 3, text),
+            "of {len}"
+        );
     }
     Ok(())
 }
@@ -221,7 +272,9 @@ fn prints_conflicts_in_file_order(rt: HostRuntime) -> Result<(), Fail> {
     files.put("t", auths.as_slice())?;
     let ones = hex::encode(alloc, [1u8; 32].as_slice())?;
     let twos = hex::encode(alloc, [2u8; 32].as_slice())?;
-    let text = format!(in alloc; "conflict 5 0 {ones}\nconflict 1 0 {twos}\nconflict 5 0 {ones}\n")?;
+    let text = format!(in alloc;
+        "conflict 5 0 {ones}\nconflict 1 0 {twos}\nconflict 5 0 {ones}\n"
+    )?;
     let words = audit_words(alloc, "0", "0")?;
     assert!(rt; gives(alloc, words.as_slice(), &mut files, 1, text.as_str()));
     Ok(())
@@ -243,9 +296,19 @@ fn each_call_fails_in_turn(rt: HostRuntime) -> Result<(), Fail> {
     assert!(rt; out.bytes().is_empty());
     let absent = words_of(
         alloc,
-        &["audit", "--answer", "a", "--auths", "u", "--from", "0", "--to", "0"],
+        &[
+            "audit", "--answer", "a", "--auths", "u", "--from", "0", "--to", "0",
+        ],
     )?;
-    assert!(rt; gives(alloc, absent.as_slice(), &mut files, 7, "refused nofile auths\n"));
+    assert!(rt;
+        gives(
+            alloc,
+            absent.as_slice(),
+            &mut files,
+            7,
+            "refused nofile auths\n"
+        )
+    );
     Ok(())
 }
 
@@ -313,6 +376,14 @@ fn goes_on_where_a_sink_takes_one_byte(rt: HostRuntime) -> Result<(), Fail> {
     let words = audit_words(alloc, "0", "0")?;
     assert_eq!(rt; run(alloc, words.as_slice(), &mut files, &mut out), 0);
     assert_eq!(rt; out.bytes.as_slice(), b"clean\n".as_slice());
-    assert!(rt; gives(alloc, words.as_slice(), &mut TooLong, 7, "refused limit answer 2147483648 2147483647\n"));
+    assert!(rt;
+        gives(
+            alloc,
+            words.as_slice(),
+            &mut TooLong,
+            7,
+            "refused limit answer 2147483648 2147483647\n"
+        )
+    );
     Ok(())
 }

@@ -31,13 +31,13 @@ or_of_none (Some v) b n e = absurd cc
 in_range_more : (as4 : Bool) (before : List Attribute) (a : Attribute) → AreInRange as4 before → may_follow as4 before a ≡ true → AreInRange as4 (before ++ a ∷ [])
 in_range_more as4 before a h follows kind value e =
     elim (first_of_more kind before a value e) [
-      inl old ↦ h kind value old
+      | inl old ↦ h kind value old
       | inr new ↦
-        let same : a.kind ≡ kind = eqb-true _ _ new.1 in
-        let none : first_of a.kind before ≡ None = ap (λ (k : ℕ). first_of k before) same ∙ new.0 in
-        let fine : is_value as4 a.kind a.value ≡ true = or_of_none (first_of a.kind before) (is_value as4 a.kind a.value) none follows in
-        let P : ℕ × List ℕ → Type 0 = λ p. is_value as4 p.0 p.1 ≡ true in
-        subst P (pair_of same new.2) fine
+          let same : a.kind ≡ kind = eqb-true _ _ new.1 in
+          let none : first_of a.kind before ≡ None = ap (λ (k : ℕ). first_of k before) same ∙ new.0 in
+          let fine : is_value as4 a.kind a.value ≡ true = or_of_none (first_of a.kind before) (is_value as4 a.kind a.value) none follows in
+          let P : ℕ × List ℕ → Type 0 = λ p. is_value as4 p.0 p.1 ≡ true in
+          subst P (pair_of same new.2) fine
     ]
   where
     pair_of : {k l : ℕ} {v w : List ℕ} → k ≡ l → v ≡ w → (let x : ℕ × List ℕ = (k, v) in x) ≡ (l, w)

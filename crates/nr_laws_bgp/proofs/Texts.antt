@@ -64,28 +64,28 @@ number_made most n ds rest len is fine =
 number_text : (most n : ℕ) → n < 1000 → n ≤ most → (rest : List ℕ) → digits_len rest ≡ 0 → number_in most (decimal n ++ rest) ≡ Some (n, rest)
 number_text most n small fine rest stops =
     elim (cases_lt n 10) [
-      inl one ↦
-        let ds = (48 + n) ∷ [] in
-        let len : digits_len (ds ++ rest) ≡ 1 = digit_more (48 + n) rest (digit_is n one) ∙ omega (arith, stops) in
-        let value : 48 + n - 48 ≡ n = omega arith in
-        ap (λ (t : List ℕ). number_in most (t ++ rest)) (decimal_1 n one) ∙ number_made most n ds rest len (ap some' value) fine
+      | inl one ↦
+          let ds = (48 + n) ∷ [] in
+          let len : digits_len (ds ++ rest) ≡ 1 = digit_more (48 + n) rest (digit_is n one) ∙ omega (arith, stops) in
+          let value : 48 + n - 48 ≡ n = omega arith in
+          ap (λ (t : List ℕ). number_in most (t ++ rest)) (decimal_1 n one) ∙ number_made most n ds rest len (ap some' value) fine
       | inr more ↦ elim (cases_lt n 100) [
-        inl two ↦
-          let a = 48 + n / 10 in
-          let b = 48 + n % 10 in
-          let ds = a ∷ b ∷ [] in
-          let len : digits_len (ds ++ rest) ≡ 2 = digit_more a (b ∷ rest) (digit_is (n / 10) (omega arith)) ∙ omega (arith, digit_more b rest (digit_is (n % 10) (omega arith)), stops) in
-          let value : (a - 48) * 10 + (b - 48) ≡ n = omega arith in
-          ap (λ (t : List ℕ). number_in most (t ++ rest)) (decimal_2 n more two) ∙ number_made most n ds rest len (numeral_2 a b (λ e. omega arith) ∙ ap some' value) fine
+        | inl two ↦
+            let a = 48 + n / 10 in
+            let b = 48 + n % 10 in
+            let ds = a ∷ b ∷ [] in
+            let len : digits_len (ds ++ rest) ≡ 2 = digit_more a (b ∷ rest) (digit_is (n / 10) (omega arith)) ∙ omega (arith, digit_more b rest (digit_is (n % 10) (omega arith)), stops) in
+            let value : (a - 48) * 10 + (b - 48) ≡ n = omega arith in
+            ap (λ (t : List ℕ). number_in most (t ++ rest)) (decimal_2 n more two) ∙ number_made most n ds rest len (numeral_2 a b (λ e. omega arith) ∙ ap some' value) fine
         | inr many ↦
-          let a = 48 + n / 10 / 10 in
-          let b = 48 + n / 10 % 10 in
-          let c = 48 + n % 10 in
-          let ds = a ∷ b ∷ c ∷ [] in
-          let len : digits_len (ds ++ rest) ≡ 3 =
+            let a = 48 + n / 10 / 10 in
+            let b = 48 + n / 10 % 10 in
+            let c = 48 + n % 10 in
+            let ds = a ∷ b ∷ c ∷ [] in
+            let len : digits_len (ds ++ rest) ≡ 3 =
             digit_more a (b ∷ c ∷ rest) (digit_is (n / 10 / 10) (omega arith)) ∙ omega (arith, digit_more b (c ∷ rest) (digit_is (n / 10 % 10) (omega arith)), digit_more c rest (digit_is (n % 10) (omega arith)), stops) in
-          let value : (a - 48) * 100 + (b - 48) * 10 + (c - 48) ≡ n = omega arith in
-          ap (λ (t : List ℕ). number_in most (t ++ rest)) (decimal_3 n many small) ∙ number_made most n ds rest len (numeral_3 a b c (λ e. omega arith) ∙ ap some' value) fine
+            let value : (a - 48) * 100 + (b - 48) * 10 + (c - 48) ≡ n = omega arith in
+            ap (λ (t : List ℕ). number_in most (t ++ rest)) (decimal_3 n many small) ∙ number_made most n ds rest len (numeral_3 a b c (λ e. omega arith) ∙ ap some' value) fine
       ]
     ]
   where
@@ -116,10 +116,10 @@ address_back addr small rest stops =
     let value : a * 2 ^ 24 + b * 2 ^ 16 + c * 2 ^ 8 + d ≡ addr = omega arith in
     ap address_in (address_parts (decimal a) (decimal b) (decimal c) (decimal d) rest)
     ∙ then_some (number_in 255 (decimal a ++ (46 ∷ text-b))) _ (a, 46 ∷ text-b) _ (number_text 255 a (omega arith) (omega arith) (46 ∷ text-b) refl)
-      (then_some (number_in 255 text-b) _ (b, 46 ∷ text-c) _ (number_text 255 b (omega arith) (omega arith) (46 ∷ text-c) refl)
-      (then_some (number_in 255 text-c) _ (c, 46 ∷ text-d) _ (number_text 255 c (omega arith) (omega arith) (46 ∷ text-d) refl)
-      (then_some (number_in 255 text-d) _ (d, rest) _ (number_text 255 d (omega arith) (omega arith) rest stops)
-      (ap (λ (n : ℕ). let r : Option (ℕ × List ℕ) = Some (n, rest) in r) value))))
+    (then_some (number_in 255 text-b) _ (b, 46 ∷ text-c) _ (number_text 255 b (omega arith) (omega arith) (46 ∷ text-c) refl)
+    (then_some (number_in 255 text-c) _ (c, 46 ∷ text-d) _ (number_text 255 c (omega arith) (omega arith) (46 ∷ text-d) refl)
+    (then_some (number_in 255 text-d) _ (d, rest) _ (number_text 255 d (omega arith) (omega arith) rest stops)
+    (ap (λ (n : ℕ). let r : Option (ℕ × List ℕ) = Some (n, rest) in r) value))))
 
 pub text_is_read : (p : Cidr) → IsCidr p → cidr_in (cidr_text p) ≡ Some p
 unfolding cidr_in

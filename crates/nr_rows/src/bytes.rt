@@ -10,7 +10,10 @@ fn fields_are_written_and_read(rt: HostRuntime) -> Result<(), Fail> {
     put_u32(&mut out, 64500)?;
     put_u64(&mut out, 12_000_000)?;
     put_bytes(&mut out, b"netreview 1")?;
-    let spelled = hex::decode(rt.alloc(), "0701020000fbf40000000000b71b006e65747265766965772031")?;
+    let spelled = hex::decode(
+        rt.alloc(),
+        "0701020000fbf40000000000b71b006e65747265766965772031",
+    )?;
     assert_eq!(rt; out.as_slice(), spelled.as_slice());
     let mut cursor = Cursor::new(&out);
     assert_eq!(rt; cursor.read_u8(), Ok(7));

@@ -12,8 +12,14 @@ fn is_digest(alloc: Global, digest: &Digest, text: &str) -> Result<bool, Fail> {
 fn digests_and_links(rt: HostRuntime) -> Result<(), Fail> {
     let alloc = rt.alloc();
     for (text, digest) in [
-        ("", "e3b0c44298fc1c149afbf4c8996fb92427ae41e4649b934ca495991b7852b855"),
-        ("abc", "ba7816bf8f01cfea414140de5dae2223b00361a396177a9cb410ff61f20015ad"),
+        (
+            "",
+            "e3b0c44298fc1c149afbf4c8996fb92427ae41e4649b934ca495991b7852b855",
+        ),
+        (
+            "abc",
+            "ba7816bf8f01cfea414140de5dae2223b00361a396177a9cb410ff61f20015ad",
+        ),
     ] {
         assert!(rt; is_digest(alloc, &sha256(text.as_bytes()), digest)?);
     }
@@ -42,4 +48,5 @@ fn digests_and_links(rt: HostRuntime) -> Result<(), Fail> {
 }
 
 const GENESIS: &str = "30d47d2b332025cb885b0a9450cb419bb9d806f2816bd7bcb314c655d92ce1bf";
+
 const LINKED: &str = "2e0947d1779eb391084d461876036855066ab931ee4b153c19de398ef34f47e5";

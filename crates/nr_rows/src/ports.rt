@@ -1,6 +1,8 @@
 //! Files and a sink in memory.
 
-use nr_ports::{Failed, Files, MemFiles, MemSink, ReadFault, Sink, WriteFault, read_whole, write_all};
+use nr_ports::{
+    Failed, Files, MemFiles, MemSink, ReadFault, Sink, WriteFault, read_whole, write_all,
+};
 use std::test::Fail;
 
 // What a name holds, or a dash where it is absent.
@@ -123,11 +125,26 @@ fn reads_a_whole_file(rt: HostRuntime) -> Result<(), Fail> {
     let alloc = rt.alloc();
     let mut files = MemFiles::new(alloc);
     files.put("a", b"abcdef")?;
-    assert_eq!(rt; read_whole(alloc, &mut files, "a", 6)?.as_slice(), b"abcdef".as_slice());
-    assert_eq!(rt; read_whole(alloc, &mut files, "a", 9)?.as_slice(), b"abcdef".as_slice());
-    assert_eq!(rt; read_whole(alloc, &mut files, "a", 4)?.as_slice(), b"abcd".as_slice());
-    assert_eq!(rt; read_whole(alloc, &mut files, "a", 0)?.as_slice(), b"".as_slice());
-    assert_eq!(rt; read_whole(alloc, &mut files, "c", 3)?.as_slice(), b"".as_slice());
+    assert_eq!(rt;
+        read_whole(alloc, &mut files, "a", 6)?.as_slice(),
+        b"abcdef".as_slice()
+    );
+    assert_eq!(rt;
+        read_whole(alloc, &mut files, "a", 9)?.as_slice(),
+        b"abcdef".as_slice()
+    );
+    assert_eq!(rt;
+        read_whole(alloc, &mut files, "a", 4)?.as_slice(),
+        b"abcd".as_slice()
+    );
+    assert_eq!(rt;
+        read_whole(alloc, &mut files, "a", 0)?.as_slice(),
+        b"".as_slice()
+    );
+    assert_eq!(rt;
+        read_whole(alloc, &mut files, "c", 3)?.as_slice(),
+        b"".as_slice()
+    );
     // one call for a full buffer, two where the file ends before
     assert_eq!(rt; files.calls(), 5);
     files.fail_call(6)?;

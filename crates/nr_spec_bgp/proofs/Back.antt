@@ -35,4 +35,3 @@ byte_back b at more =
 pub wants_back : {A : Type 0} (b : Bool) (place : ℕ) (x : A) → b ≡ true → wants b place x ≡ Ok x
 wants_back true place x e = refl
 wants_back false place x e = absurd cc
-

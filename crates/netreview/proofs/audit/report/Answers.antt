@@ -17,4 +17,4 @@ returns-then-is_empty-clause-value c = λ conflicts e.
 pub returns-clause-value : goal.returns-clause-value
 returns-clause-value c = λ conflicts e.
     full_report (string_bytes c.args.lines) conflicts
-        (λ nil. eqb-false _ _ (sym c.is_empty.ensures ∙ c.if-is_empty.false) (ap length (c.as_str.ensures.value ∙ nil))) e
+    (λ nil. eqb-false _ _ (sym c.is_empty.ensures ∙ c.if-is_empty.false) (ap length (c.as_str.ensures.value ∙ nil))) e

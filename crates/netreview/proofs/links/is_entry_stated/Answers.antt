@@ -15,7 +15,7 @@ pub returns-in-None : goal.returns-in-None
 returns-in-None c =
     let items = c.args.links.now.links.items in
     sym (stated-past (auth_of c.args.auth.now) c.args.first (c.args.auth.now.seq - c.args.first) (links_in c.args.links.now) c.requires (omega arith)
-        (omega (arith, length-map items link_of, c.in-None.ensures.lookup.3, ap length c.deref.ensures.value)))
+    (omega (arith, length-map items link_of, c.in-None.ensures.lookup.3, ap length c.deref.ensures.value)))
 
 pub returns-in-Some : goal.returns-in-Some
 returns-in-Some c =
@@ -25,5 +25,5 @@ returns-in-Some c =
     let found = ap link_of (ap (λ (xs : List Link). get_or xs at link) (sym c.deref.ensures.value) ∙ sym c.in-Some.ensures.lookup.1) in
     c.is_link_stated.ensures
     ∙ sym (stated-at (auth_of c.args.auth.now) c.args.first at (links_in c.args.links.now) (link_of link) c.requires (omega arith)
-        (omega (arith, length-map items link_of, c.in-Some.ensures.lookup.3.0, ap length c.deref.ensures.value))
-      ∙ ap (is_stated (auth_of c.args.auth.now)) (get_or-map link_of items at link ∙ found))
+    (omega (arith, length-map items link_of, c.in-Some.ensures.lookup.3.0, ap length c.deref.ensures.value))
+    ∙ ap (is_stated (auth_of c.args.auth.now)) (get_or-map link_of items at link ∙ found))
