@@ -10,3 +10,4 @@ mod write;
 pub use message::{Message, read};
 pub use prefixes::Prefixes;
 pub use update::Update;
+pub use write::{WriteError, write_keepalive, write_update};
