@@ -156,14 +156,14 @@ impl<'a> Attrs<'a> {
         word(self.values.next_hop)
     }
 
-    /// MULTI_EXIT_DISC (section 5.1.4), or 0.
+    /// MULTI_EXIT_DISC (section 5.1.4), or 0, which is a choice of this project.
     pub fn med(&self) -> u32
         ensures { result ≡ med_of self.now }
     {
         word(self.values.med)
     }
 
-    /// LOCAL_PREF (section 5.1.5), or 0.
+    /// LOCAL_PREF (section 5.1.5), or 0, which is a choice of this project.
     pub fn pref(&self) -> u32
         ensures { result ≡ pref_of self.now }
     {
@@ -193,14 +193,14 @@ impl<'a> Attrs<'a> {
         self.segments().path_len() as u32
     }
 
-    /// The first number of the path, where the first segment is an AS_SEQUENCE, else 0.
+    /// The first number of the path, where the first segment is an AS_SEQUENCE, else 0: a choice of this project.
     pub fn first_as(&self) -> u32
         ensures { result ≡ first_as (path_of self.now) }
     {
         self.segments().first_as()
     }
 
-    /// The last number of the path, where the last segment is an AS_SEQUENCE, else 0.
+    /// The last number of the path, where the last segment is an AS_SEQUENCE, else 0: a choice of this project.
     pub fn last_as(&self) -> u32
         ensures { result ≡ last_as (path_of self.now) }
     {

@@ -143,7 +143,8 @@ fn spell_update(
 }
 
 /// An UPDATE that withdraws prefixes, and announces prefixes with a block of attributes. `TooLong` comes
-/// exactly where it would be longer than 65,535 bytes.
+/// exactly where it would be longer than 65,535 bytes. It reads back as the same values where the block is in
+/// its grammar and, if something is announced, complete.
 pub fn write_update(
     alloc: Global,
     withdrawn: &[Prefix],

@@ -236,8 +236,8 @@ address_of text x e =
     let nd = number_of 255 tc.0 d.0 d.1 in
     let parts = address_of_parts a.0.0 b.0.0 c.0.0 d.0.0 d.0.1 na.0 nb.0 nc.0 nd.0 in
     let whole : text ≡ decimal a.0.0 ++ (46 ∷ (decimal b.0.0 ++ (46 ∷ (decimal c.0.0 ++ (46 ∷ (decimal d.0.0 ++ d.0.1)))))) =
-      na.1 ∙ ap (λ (t : List ℕ). decimal a.0.0 ++ t) (behind_of 46 a.0.1 ta.0 ta.1 ∙ ap (λ (t : List ℕ). 46 ∷ t) (nb.1 ∙ ap (λ (t : List ℕ). decimal b.0.0 ++ t) (behind_of 46 b.0.1 tb.0 tb.1 ∙ ap (λ (t : List ℕ). 46 ∷ t)
-      (nc.1 ∙ ap (λ (t : List ℕ). decimal c.0.0 ++ t) (behind_of 46 c.0.1 tc.0 tc.1 ∙ ap (λ (t : List ℕ). 46 ∷ t) nd.1))))) in
+    na.1 ∙ ap (λ (t : List ℕ). decimal a.0.0 ++ t) (behind_of 46 a.0.1 ta.0 ta.1 ∙ ap (λ (t : List ℕ). 46 ∷ t) (nb.1 ∙ ap (λ (t : List ℕ). decimal b.0.0 ++ t) (behind_of 46 b.0.1 tb.0 tb.1 ∙ ap (λ (t : List ℕ). 46 ∷ t)
+    (nc.1 ∙ ap (λ (t : List ℕ). decimal c.0.0 ++ t) (behind_of 46 c.0.1 tc.0 tc.1 ∙ ap (λ (t : List ℕ). 46 ∷ t) nd.1))))) in
     subst (IsAddress text) made (parts.0, whole ∙ parts.1)
 
 no_more : (rest : List ℕ) → eqb (length rest) 0 ≡ true → rest ≡ []

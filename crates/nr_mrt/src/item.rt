@@ -3,7 +3,7 @@
 /// A record. Times are in microseconds since 1970 began.
 #[derive(Clone, Copy, Debug)]
 pub enum MrtItem<'a> {
-    /// A message of a session (RFC 6396, sections 4.4.2 to 4.4.4).
+    /// A message of a session (RFC 6396, sections 4.4.2, 4.4.3, 4.4.5 and 4.4.6).
     Message {
         time: u64,
         peer_as: u32,
@@ -14,7 +14,7 @@ pub enum MrtItem<'a> {
         as4: bool,
         raw: &'a [u8],
     },
-    /// A change of a session's state (section 4.4.1).
+    /// A change of a session's state (sections 4.4.1 and 4.4.4).
     State {
         time: u64,
         peer_as: u32,

@@ -190,7 +190,8 @@ fn read_item<'a>(
 
 #[tactic(auto, unfolding(nr_spec_bgp::specs::Records::record_at))]
 fn read_record<'a>(cursor: &mut Cursor<'a>) -> Result<MrtItem<'a>, Place>
-    ensures { Reads item_of offset_of result cursor.new (record_at cursor.old) }
+    ensures value { Reads item_of offset_of result cursor.new (record_at cursor.old) }
+    ensures onward { IsOnward cursor.old cursor.new }
 {
     let seconds = cursor.read_u32()?;
     let kind = cursor.read_u16()?;
@@ -203,7 +204,8 @@ fn read_record<'a>(cursor: &mut Cursor<'a>) -> Result<MrtItem<'a>, Place>
 /// The next record. `None` comes exactly where no byte is left. A fault is named by the offset of the first
 /// field that doesn't read, and leaves the cursor where it was.
 pub fn next<'a>(cursor: &mut Cursor<'a>) -> Option<Result<MrtItem<'a>, Place>>
-    ensures { Offers result cursor.old cursor.new }
+    ensures value { Offers result cursor.old cursor.new }
+    ensures onward { IsOnward cursor.old cursor.new }
 {
     if cursor.left() == 0 {
         return None;

@@ -85,7 +85,7 @@ fn spell(alloc: Global, time: u64, local: bool, ends: Ends, raw: &[u8]) -> Resul
     Ok(record)
 }
 
-/// Appends a message as a record of type BGP4MP_ET (RFC 6396, sections 3 and 4.4.3) with AS numbers of four
+/// Appends a message as a record of type BGP4MP_ET (RFC 6396, sections 3, 4.4.3 and 4.4.6) with AS numbers of four
 /// bytes: received from the peer, or sent to it where `local`. `Memory` leaves the vector as it was.
 pub fn write_message(
     out: &mut Vec<u8>,

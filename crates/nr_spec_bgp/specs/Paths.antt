@@ -40,8 +40,8 @@ segments_at as4 s = all_at (segment_at as4) s
 abbrev pub segments_in : Bool → List ℕ → List Segment
 segments_in as4 value = result_unwrap_or (segments_at as4 (start_of value)) []
 
--- ---- questions on a path. Which number is the first and which the last, and how confederations count
--- ---- in the length, are choices of this project.
+-- ---- questions on a path. Which number is the first and which the last are choices of this project, and so
+-- ---- is that the length follows both RFCs named there.
 
 -- a number of a path, with the type of its segment, and whether it is the segment's first
 pub record Hop : Type 0 where
