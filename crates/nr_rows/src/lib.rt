@@ -9,6 +9,10 @@ mod bytes;
 #[cfg(test)]
 mod chain;
 #[cfg(test)]
+mod keys;
+#[cfg(test)]
 mod ports;
+#[cfg(test)]
+mod routes;
 #[cfg(test)]
 mod words;
