@@ -1,0 +1,5 @@
+mod Bytes
+mod Fields
+mod SignatureLaws
+mod AuthenticatorLaws
+mod EntryLaws
