@@ -85,6 +85,14 @@ step item Fits spell law s f y fits e =
 pub number_step : {B : Type 0} (n : ℕ) (s : Spot) (f : ℕ × Spot → Result B ℕ) (y : B) → IsBytes s.rest → (number_at n s >>= f) ≡ Ok y → Step (λ v. v < 256 ^ n) (big_bytes n) s f y
 number_step n s f y fits e = step (number_at n) (λ v. v < 256 ^ n) (big_bytes n) (number_takes n) s f y fits e
 
+-- the bytes of a number, as a word that stays closed
+unfoldable pub number_text : ℕ → ℕ → List ℕ
+number_text n v = big_bytes n v
+
+pub text_step : {B : Type 0} (n : ℕ) (s : Spot) (f : ℕ × Spot → Result B ℕ) (y : B) → IsBytes s.rest → (number_at n s >>= f) ≡ Ok y → Step (λ v. v < 256 ^ n) (number_text n) s f y
+unfolding number_text
+text_step n s f y fits e = number_step n s f y fits e
+
 pub bytes_step : {B : Type 0} (n : ℕ) (s : Spot) (f : List ℕ × Spot → Result B ℕ) (y : B) → IsBytes s.rest → (bytes_at n s >>= f) ≡ Ok y → Step (λ v. length v ≡ n) (λ v. v) s f y
 bytes_step n s f y fits e = step (bytes_at n) (λ v. length v ≡ n) (λ v. v) (bytes_take n) s f y fits e
 

@@ -3,3 +3,4 @@ mod Fields
 mod SignatureLaws
 mod AuthenticatorLaws
 mod EntryLaws
+mod RowLaws
