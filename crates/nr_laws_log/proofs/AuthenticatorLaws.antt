@@ -1,9 +1,9 @@
 -- Authenticators.
-use Rattle.std.proofs.Common.{◌≡◌, ℕ, zero, suc, ◌+◌, ◌*◌, ◌^◌, ◌<◌, ◌≤◌, Bool, true, false, cond, eqb, ltb, leb, ◌&&◌, List, [], ◌∷◌, ◌++◌, length, Option, Some, None, Result, Ok, Err, refl, sym, ap, subst, ◌∙◌, append_assoc, arith}
+use Rattle.std.proofs.Common.{◌≡◌, ℕ, ◌+◌, ◌^◌, ◌<◌, true, List, ◌++◌, length, Option, Some, None, Ok, refl, ap, subst, ◌∙◌, append_assoc, arith}
 use Rattle.std.proofs.lemmas.Bool.{eqb-true, eq-eqb}
 use Rattle.std.proofs.lemmas.List.{length-append}
 use Rattle.byteorder.specs.Endian.{big_bytes}
-use Rattle.nr_spec_wire.specs.Reading.{Spot, Read, ◌>>=◌, number_at, bytes_at, wants}
+use Rattle.nr_spec_wire.specs.Reading.{Spot, ◌>>=◌, bytes_at}
 use Rattle.nr_spec_wire.proofs.Steps.{ok_is}
 use Rattle.nr_spec_log.specs.Authenticator.{Authenticator, IsAuthenticator, Head, IsSignature, signature, signature_at, authenticator, wanted_at, authenticator_at, is_asn_of, is_seq_of, is_time_of, digest_size}
 use Rattle.nr_laws_log.specs.Laws.{IsBytes, Takes, ReadsSpelled, SpelledReads, SpeaksOf, IsWanted}
@@ -56,7 +56,7 @@ signed_takes asn seq time s v new fits e =
     let made : Authenticator = record { asn = asn; seq = seq; time = time; hash = d.value; sig = g.value } in
     let dg = Takes-then s d.value d.next (signature g.value) g.next d.takes g.takes in
     subst (λ (p : Authenticator × Spot). IsSigned asn seq time s p.0 p.1) (ok_is (made, g.next) (v, new) g.goes_on)
-      (record { hash = d.value_fits; sig = g.value_fits; asn_is = refl; seq_is = refl; time_is = refl; takes = dg })
+    (record { hash = d.value_fits; sig = g.value_fits; asn_is = refl; seq_is = refl; time_is = refl; takes = dg })
 
 pub wanted_takes : (head : Option Head) → ReadsSpelled (wanted_at head) (IsWanted head) authenticator
 unfolding wanted_at
@@ -70,9 +70,10 @@ wanted_takes head s v new fits e =
     let d = signed_takes a.value b.value c.value c.next v new c.takes.rest_fits c_is.1 in
     let asn = subst (λ (n : ℕ). (n < 256 ^ 4) × (is_asn_of head n ≡ true) × Takes s (number_text 4 n) a.next) d.asn_is (a.value_fits, a_is.0, a.takes) in
     let seq = subst (λ (n : ℕ). (n < 256 ^ 8) × (is_seq_of head n ≡ true) × Takes a.next (number_text 8 n) b.next) d.seq_is (b.value_fits, b_is.0, b.takes) in
-    let time = subst (λ (n : ℕ). (n < 256 ^ 8) × (is_time_of head n ≡ true) × Takes b.next (number_text 8 n) c.next) d.time_is (c.value_fits, c_is.0, c.takes) in
-    (record { is_one = record { asn = asn.0; seq = seq.0; time = time.0; hash = d.hash; sig = d.sig }; speaks = speaks head v asn.1 seq.1 time.1 },
-      joined v s a.next b.next c.next new asn.2 seq.2 time.2 d.takes)
+    let time = subst (λ (n : ℕ). (n < 256 ^ 8) × (is_time_of head n ≡ true) × Takes b.next (number_text 8 n) c.next) d.time_is (c.value_fits, c_is.0, c.takes) in (
+      record { is_one = record { asn = asn.0; seq = seq.0; time = time.0; hash = d.hash; sig = d.sig }; speaks = speaks head v asn.1 seq.1 time.1 },
+      joined v s a.next b.next c.next new asn.2 seq.2 time.2 d.takes,
+    )
 
 pub wanted_again : (head : Option Head) → SpelledReads (wanted_at head) (IsWanted head) authenticator
 unfolding wanted_at
@@ -98,10 +99,10 @@ wanted_again head v at rest fits =
     let signed = signature_again v.sig a3 rest fits.is_one.sig in
     let end : Spot = record { at = a4; rest = rest } in
     let whole : wanted_at head (record { at = at; rest = big_bytes 4 v.asn ++ r1 }) ≡ Ok (v, end) =
-      reads_then _ _ _ _ asn (wants_then (is_asn_of head v.asn) at _ _ _ asn_is
-      (reads_then _ _ _ _ seq (wants_then (is_seq_of head v.seq) a0 _ _ _ seq_is
-      (reads_then _ _ _ _ time (wants_then (is_time_of head v.time) a1 _ _ _ time_is
-      (reads_then _ _ _ _ hash (reads_then _ _ _ _ signed refl))))))) in
+    reads_then _ _ _ _ asn (wants_then (is_asn_of head v.asn) at _ _ _ asn_is
+    (reads_then _ _ _ _ seq (wants_then (is_seq_of head v.seq) a0 _ _ _ seq_is
+    (reads_then _ _ _ _ time (wants_then (is_time_of head v.time) a1 _ _ _ time_is
+    (reads_then _ _ _ _ hash (reads_then _ _ _ _ signed refl))))))) in
     ap (λ (t : List ℕ). wanted_at head (record { at = at; rest = t })) spelled ∙ whole ∙ ap (λ (k : ℕ). Ok (v, record { at = k; rest = rest })) places
 
 pub authenticator_takes : ReadsSpelled authenticator_at IsAuthenticator authenticator

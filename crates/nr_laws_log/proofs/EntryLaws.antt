@@ -1,16 +1,16 @@
 -- Entries.
-use Rattle.std.proofs.Common.{◌≡◌, ℕ, zero, suc, ◌+◌, ◌*◌, ◌^◌, ◌<◌, ◌≤◌, Bool, true, false, cond, eqb, ltb, leb, ◌&&◌, List, [], ◌∷◌, ◌++◌, length, Option, Some, None, Result, Ok, Err, refl, sym, ap, subst, ◌∙◌, append_assoc, arith}
+use Rattle.std.proofs.Common.{◌≡◌, ℕ, zero, suc, ◌+◌, ◌^◌, ◌<◌, Bool, true, false, leb, List, [], ◌∷◌, ◌++◌, length, Ok, refl, sym, ap, subst, ◌∙◌, append_assoc, arith}
 use Rattle.std.specs.List.{flat_map}
 use Rattle.std.proofs.lemmas.Bool.{eqb-true, eq-eqb, leb-true, le-leb}
 use Rattle.std.proofs.lemmas.List.{length-append}
 use Rattle.std.proofs.lemmas.List.Concat.{flat_map-cons}
 use Rattle.byteorder.specs.Endian.{big_bytes}
-use Rattle.nr_spec_wire.specs.Reading.{Spot, Read, ◌>>=◌, number_at, bytes_at, wants}
+use Rattle.nr_spec_wire.specs.Reading.{Spot}
 use Rattle.nr_spec_wire.proofs.Steps.{ok_is}
 use Rattle.nr_spec_log.specs.Chain.{LogEntry}
 use Rattle.nr_spec_log.specs.Authenticator.{digest_size}
 use Rattle.nr_spec_log.specs.Answer.{IsEntry, AreEntriesFrom, IsCheckpointFirst, entry, entry_at, entries_at, is_wanted, checkpoint_kind}
-use Rattle.nr_laws_log.specs.Laws.{IsBytes, Takes, ReadsSpelled, SpelledReads, IsNext, AreNext}
+use Rattle.nr_laws_log.specs.Laws.{Takes, ReadsSpelled, SpelledReads, IsNext, AreNext}
 use Rattle.nr_laws_log.proofs.Fields.{Takes-then, step, number_step, number_again, bytes_step, bytes_again, wants_step, reads_then, wants_then}
 
 asked : (checkpoint : Bool) (n wanted : ℕ) → is_wanted checkpoint n wanted ≡ true → checkpoint ≡ true → n ≡ wanted
@@ -67,10 +67,10 @@ entry_again checkpoint last v at rest fits =
     let content = bytes_again size v.content a2 rest refl in
     let end : Spot = record { at = a3; rest = rest } in
     let whole : entry_at checkpoint last (record { at = at; rest = big_bytes 8 v.time ++ r1 }) ≡ Ok (v, end) =
-      reads_then _ _ _ _ time (wants_then (leb last v.time) at _ _ _ time_is
-      (reads_then _ _ _ _ kind (wants_then (is_wanted checkpoint v.kind checkpoint_kind) a0 _ _ _ kind_is
-      (reads_then _ _ _ _ sized (wants_then (is_wanted checkpoint size digest_size) a1 _ _ _ size_is
-      (reads_then _ _ _ _ content refl)))))) in
+    reads_then _ _ _ _ time (wants_then (leb last v.time) at _ _ _ time_is
+    (reads_then _ _ _ _ kind (wants_then (is_wanted checkpoint v.kind checkpoint_kind) a0 _ _ _ kind_is
+    (reads_then _ _ _ _ sized (wants_then (is_wanted checkpoint size digest_size) a1 _ _ _ size_is
+    (reads_then _ _ _ _ content refl)))))) in
     ap (λ (t : List ℕ). entry_at checkpoint last (record { at = at; rest = t })) spelled ∙ whole ∙ ap (λ (k : ℕ). Ok (v, record { at = k; rest = rest })) places
 
 -- ---- so many of them
@@ -104,19 +104,19 @@ entries_again-of checkpoint last (e ∷ es) at rest fits is_first =
     let others = flat_map entry es in
     let spelled : flat_map entry (e ∷ es) ++ rest ≡ entry e ++ (others ++ rest) = ap (λ (t : List ℕ). t ++ rest) (flat_map-cons entry e es) ∙ append_assoc (entry e) others rest in
     let places : at + length (entry e) + length others ≡ at + length (flat_map entry (e ∷ es)) =
-      let split = ap length (flat_map-cons entry e es) in omega (arith, split, length-append (entry e) others) in
+    let split = ap length (flat_map-cons entry e es) in omega (arith, split, length-append (entry e) others) in
     let e_fits : IsNext checkpoint last e = record { is_one = fits.0; not_before = fits.1; kind_is = λ h. (is_first h).0; size_is = λ h. (is_first h).1 } in
     let first = entry_again checkpoint last e at (others ++ rest) e_fits in
     let second = entries_again-of false e.time es (at + length (entry e)) rest fits.2 none_asked in
     let end : Spot = record { at = at + length (entry e) + length others; rest = rest } in
     let whole : entries_at checkpoint last (suc (length es)) (record { at = at; rest = entry e ++ (others ++ rest) }) ≡ Ok (e ∷ es, end) =
-      reads_then _ _ _ _ first (reads_then _ _ _ _ second refl) in
+    reads_then _ _ _ _ first (reads_then _ _ _ _ second refl) in
     ap (λ (t : List ℕ). entries_at checkpoint last (suc (length es)) (record { at = at; rest = t })) spelled ∙ whole ∙ ap (λ (k : ℕ). Ok (e ∷ es, record { at = k; rest = rest })) places
 
 pub entries_again : (checkpoint : Bool) (last n : ℕ) → SpelledReads (entries_at checkpoint last n) (AreNext checkpoint last n) (flat_map entry)
 entries_again checkpoint last n es at rest fits =
     subst (λ (k : ℕ). entries_at checkpoint last k (record { at = at; rest = flat_map entry es ++ rest }) ≡ Ok (es, record { at = at + length (flat_map entry es); rest = rest })) fits.as_many
-      (entries_again-of checkpoint last es at rest fits.entries fits.first_is)
+    (entries_again-of checkpoint last es at rest fits.entries fits.first_is)
 
 -- any entry that fits may stand first
 pub one_again : SpelledReads (entry_at false 0) IsEntry entry

@@ -1,5 +1,5 @@
 -- A field that is read is the field that was written, and what was written is read again.
-use Rattle.std.proofs.Common.{◌≡◌, ℕ, zero, suc, ◌+◌, ◌^◌, ◌<◌, ◌≤◌, Bool, true, false, cond, ltb, List, [], ◌∷◌, ◌++◌, length, get_or, take, drop, Result, Ok, Err, refl, sym, ap, subst, ◌∙◌, append_assoc, arith, inl, inr}
+use Rattle.std.proofs.Common.{◌≡◌, ℕ, ◌+◌, ◌^◌, ◌<◌, ◌≤◌, Bool, true, false, cond, ltb, List, ◌++◌, length, take, drop, Result, Ok, Err, refl, sym, ap, subst, ◌∙◌, append_assoc, arith}
 use Rattle.std.proofs.lemmas.Bool.{ltb-false, le-ltb}
 use Rattle.std.proofs.lemmas.List.{take_at, drop_at, take-append-drop, length-append, length-take, get_or-drop}
 use Rattle.byteorder.specs.Endian.{big_bytes, big_number}
@@ -92,6 +92,10 @@ number_text n v = big_bytes n v
 pub text_step : {B : Type 0} (n : ℕ) (s : Spot) (f : ℕ × Spot → Result B ℕ) (y : B) → IsBytes s.rest → (number_at n s >>= f) ≡ Ok y → Step (λ v. v < 256 ^ n) (number_text n) s f y
 unfolding number_text
 text_step n s f y fits e = number_step n s f y fits e
+
+pub text_again : (n v at : ℕ) (rest : List ℕ) → v < 256 ^ n → number_at n (record { at = at; rest = number_text n v ++ rest }) ≡ Ok (v, record { at = at + length (number_text n v); rest = rest })
+unfolding number_text
+text_again n v at rest lt = number_again n v at rest lt
 
 pub bytes_step : {B : Type 0} (n : ℕ) (s : Spot) (f : List ℕ × Spot → Result B ℕ) (y : B) → IsBytes s.rest → (bytes_at n s >>= f) ≡ Ok y → Step (λ v. length v ≡ n) (λ v. v) s f y
 bytes_step n s f y fits e = step (bytes_at n) (λ v. length v ≡ n) (λ v. v) (bytes_take n) s f y fits e

@@ -4,3 +4,5 @@ mod SignatureLaws
 mod AuthenticatorLaws
 mod EntryLaws
 mod RowLaws
+mod OpeningLaws
+mod AnswerLaws

@@ -1,16 +1,16 @@
 -- Values to the end of the bytes.
-use Rattle.std.proofs.Common.{◌≡◌, ℕ, zero, suc, ◌+◌, ◌-◌, ◌*◌, ◌^◌, ◌<◌, ◌≤◌, Bool, true, false, cond, eqb, ltb, leb, ◌&&◌, List, [], ◌∷◌, ◌++◌, length, Option, Some, None, Result, Ok, Err, refl, sym, ap, subst, ◌∙◌, append_assoc, arith, ◌⊎◌, inl, inr}
+use Rattle.std.proofs.Common.{◌≡◌, ℕ, zero, suc, ◌+◌, ◌≤◌, Bool, true, false, cond, eqb, List, [], ◌∷◌, ◌++◌, length, Ok, refl, sym, ap, subst, ◌∙◌, arith, ◌⊎◌, inl, inr}
 use Rattle.std.specs.List.{flat_map, AllByRecursion}
 use Rattle.std.specs.Str.{bytes_eq}
 use Rattle.std.proofs.lemmas.Bool.{eqb-true, ne_eqb}
 use Rattle.std.proofs.lemmas.List.{length-append, append-nil, nil_from_length}
 use Rattle.std.proofs.lemmas.List.Concat.{flat_map-cons}
 use Rattle.std.proofs.lemmas.Slice.Eq.{bytes_eq-Decides}
-use Rattle.nr_spec_wire.specs.Reading.{Spot, Read, ◌>>=◌, start_of, bytes_at, wants, rows_at}
+use Rattle.nr_spec_wire.specs.Reading.{Spot, Read, start_of, wants, rows_at}
 use Rattle.nr_spec_wire.proofs.Steps.{ok_is, bind_ok, wants_ok}
 use Rattle.nr_spec_log.specs.Authenticator.{Authenticator, IsAuthenticator, AreAuthenticators, authenticator, authenticator_at, auths_file, auths_magic, auths_of, magic_at}
 use Rattle.nr_laws_log.specs.Laws.{IsBytes, Takes, ReadsSpelled, SpelledReads}
-use Rattle.nr_laws_log.proofs.Fields.{Takes-then, step, bytes_step, bytes_again, reads_then, wants_then}
+use Rattle.nr_laws_log.proofs.Fields.{Takes-then, step, bytes_step, bytes_again, reads_then}
 use Rattle.nr_laws_log.proofs.AuthenticatorLaws.{authenticator_takes, authenticator_again}
 
 by_test : {A : Type 0} (test : Bool) (x y z : A) → cond test x y ≡ z → ((test ≡ true) × (x ≡ z)) ⊎ ((test ≡ false) × (y ≡ z))
@@ -46,14 +46,14 @@ rows_take {A = A} item Fits spell law some (suc fuel) s vs new enough fits e =
     elim (by_test (eqb (length s.rest) 0) _ _ _ e) [
       | inl none ↦ subst (λ (p : List A × Spot). AreRows Fits spell s p.0 p.1) (ok_is ([], s) (vs, new) none.1) (no_rows Fits spell s fits (eqb-true _ _ none.0))
       | inr more ↦
-        let a = step item Fits spell law s _ (vs, new) fits more.1 in
-        let b = bind_ok (rows_at item fuel a.next) _ (vs, new) a.goes_on in
-        let shorter : length a.next.rest ≤ fuel = omega (arith, ap length a.takes.parts, length-append (spell a.value) a.next.rest, some a.value) in
-        let others = rows_take item Fits spell law some fuel a.next b.0.0 b.0.1 shorter a.takes.rest_fits b.1 in
-        let both = Takes-then s (spell a.value) a.next (flat_map spell b.0.0) b.0.1 a.takes others.takes in
-        let made : List A = a.value ∷ b.0.0 in
-        let whole : Takes s (flat_map spell made) b.0.1 = subst (λ (t : List ℕ). Takes s t b.0.1) (sym (flat_map-cons spell a.value b.0.0)) both in
-        subst (λ (p : List A × Spot). AreRows Fits spell s p.0 p.1) (ok_is (made, b.0.1) (vs, new) b.2) (record { fit = (a.value_fits, others.fit); takes = whole; ended = others.ended })
+          let a = step item Fits spell law s _ (vs, new) fits more.1 in
+          let b = bind_ok (rows_at item fuel a.next) _ (vs, new) a.goes_on in
+          let shorter : length a.next.rest ≤ fuel = omega (arith, ap length a.takes.parts, length-append (spell a.value) a.next.rest, some a.value) in
+          let others = rows_take item Fits spell law some fuel a.next b.0.0 b.0.1 shorter a.takes.rest_fits b.1 in
+          let both = Takes-then s (spell a.value) a.next (flat_map spell b.0.0) b.0.1 a.takes others.takes in
+          let made : List A = a.value ∷ b.0.0 in
+          let whole : Takes s (flat_map spell made) b.0.1 = subst (λ (t : List ℕ). Takes s t b.0.1) (sym (flat_map-cons spell a.value b.0.0)) both in
+          subst (λ (p : List A × Spot). AreRows Fits spell s p.0 p.1) (ok_is (made, b.0.1) (vs, new) b.2) (record { fit = (a.value_fits, others.fit); takes = whole; ended = others.ended })
     ]
 
 pub rows_again : {A : Type 0} (item : Spot → Read A) (Fits : A → Type 0) (spell : A → List ℕ) → SpelledReads item Fits spell → TakesSome spell
@@ -72,7 +72,7 @@ rows_again item Fits spell law some (suc fuel) (v ∷ vs) at enough fits =
     let second = rows_again item Fits spell law some fuel vs (at + length (spell v)) (omega (arith, split, length-append (spell v) others, some v)) fits.1 in
     let places : at + length (spell v) + length others ≡ at + length (flat_map spell (v ∷ vs)) = omega (arith, split, length-append (spell v) others) in
     let whole : rows_at item (suc fuel) (record { at = at; rest = spell v ++ others }) ≡ Ok (v ∷ vs, record { at = at + length (spell v) + length others; rest = [] }) =
-      not_then (eqb (length (spell v ++ others)) 0) _ _ _ test (reads_then _ _ _ _ first (reads_then _ _ _ _ second refl)) in
+    not_then (eqb (length (spell v ++ others)) 0) _ _ _ test (reads_then _ _ _ _ first (reads_then _ _ _ _ second refl)) in
     ap (λ (t : List ℕ). rows_at item (suc fuel) (record { at = at; rest = t })) (flat_map-cons spell v vs) ∙ whole ∙ ap (λ (k : ℕ). Ok (v ∷ vs, record { at = k; rest = [] })) places
 
 -- ---- the first bytes of a file

@@ -1,13 +1,13 @@
 -- Signatures.
-use Rattle.std.proofs.Common.{◌≡◌, ℕ, zero, suc, ◌+◌, ◌*◌, ◌^◌, ◌<◌, ◌≤◌, Bool, true, false, cond, ltb, leb, ◌&&◌, List, [], ◌∷◌, ◌++◌, length, Result, Ok, Err, refl, sym, ap, subst, ◌∙◌, append_assoc, arith}
+use Rattle.std.proofs.Common.{◌≡◌, ℕ, ◌+◌, ◌*◌, ◌^◌, ◌<◌, ◌≤◌, Bool, true, false, ltb, leb, ◌&&◌, List, ◌++◌, length, Ok, refl, ap, subst, ◌∙◌, append_assoc, arith}
 use Rattle.std.proofs.lemmas.Bool.{ltb-true, leb-true, lt-ltb, le-leb}
 use Rattle.std.proofs.lemmas.List.{length-append}
 use Rattle.std.proofs.Math.Nat.{pow-le-pow_right}
 use Rattle.byteorder.specs.Endian.{big_bytes}
-use Rattle.nr_spec_wire.specs.Reading.{Spot, Read, ◌>>=◌, number_at, bytes_at, wants}
-use Rattle.nr_spec_wire.proofs.Steps.{ok_is, bind_ok, wants_ok}
+use Rattle.nr_spec_wire.specs.Reading.{Spot}
+use Rattle.nr_spec_wire.proofs.Steps.{ok_is}
 use Rattle.nr_spec_log.specs.Authenticator.{Signature, IsSignature, signature, signature_at, is_leaf, pairs_size, digest_size}
-use Rattle.nr_laws_log.specs.Laws.{IsBytes, Takes, ReadsSpelled, SpelledReads}
+use Rattle.nr_laws_log.specs.Laws.{Takes, ReadsSpelled, SpelledReads}
 use Rattle.nr_laws_log.proofs.Fields.{Takes-then, number_step, number_again, bytes_step, bytes_again, wants_step, reads_then, wants_then}
 
 -- what the test of a leaf and a height says
@@ -71,5 +71,5 @@ signature_again v at rest fits =
     let path = bytes_again (digest_size * v.height) v.path a2 rest fits.path in
     let end : Spot = record { at = a3; rest = rest } in
     let whole : signature_at (record { at = at; rest = big_bytes 4 v.leaf ++ (big_bytes 1 v.height ++ (v.pairs ++ (v.path ++ rest))) }) ≡ Ok (v, end) =
-      reads_then _ _ _ _ leaf (reads_then _ _ _ _ height (wants_then (is_leaf v.leaf v.height) a0 _ _ _ is (reads_then _ _ _ _ pairs (reads_then _ _ _ _ path refl)))) in
+    reads_then _ _ _ _ leaf (reads_then _ _ _ _ height (wants_then (is_leaf v.leaf v.height) a0 _ _ _ is (reads_then _ _ _ _ pairs (reads_then _ _ _ _ path refl)))) in
     ap (λ (t : List ℕ). signature_at (record { at = at; rest = t })) spelled ∙ whole ∙ ap (λ (k : ℕ). Ok (v, record { at = k; rest = rest })) places

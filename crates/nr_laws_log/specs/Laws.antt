@@ -1,5 +1,5 @@
 -- What it means that a form of values has one spelling, which is what its reading takes.
-use Rattle.std.specs.Prelude.{◌≡◌, ℕ, ◌+◌, ◌<◌, ◌≤◌, Bool, true, List, [], ◌∷◌, ◌++◌, length, get_or, Option, None, Some, Ok}
+use Rattle.std.specs.Prelude.{◌≡◌, ℕ, ◌+◌, ◌<◌, ◌≤◌, Bool, true, List, ◌++◌, length, get_or, Option, None, Some, Ok}
 use Rattle.nr_spec_wire.specs.Reading.{Spot, Read}
 use Rattle.nr_spec_log.specs.Chain.{LogEntry}
 use Rattle.nr_spec_log.specs.Authenticator.{Authenticator, IsAuthenticator, Head, digest_size}

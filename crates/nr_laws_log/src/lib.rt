@@ -15,7 +15,7 @@ pub use entries::{
     entries_read_spelled, entries_spelled_read, entry_reads_spelled, entry_spelled_reads,
     entry_spellings_are_prefix_free,
 };
-pub use files::{auths_file_again, auths_file_found};
+pub use files::{answer_file_again, answer_file_found, auths_file_again, auths_file_found};
 pub use signatures::{
     signature_reads_spelled, signature_spelled_reads, signatures_are_prefix_free,
 };
