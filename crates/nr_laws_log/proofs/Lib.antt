@@ -1,0 +1,8 @@
+mod Bytes
+mod Fields
+mod SignatureLaws
+mod AuthenticatorLaws
+mod EntryLaws
+mod RowLaws
+mod OpeningLaws
+mod AnswerLaws
