@@ -1,2 +1,5 @@
 pub mod Ranges
 pub mod Texts
+pub mod Pieces
+pub mod GrammarWalk
+pub mod GrammarMessages

@@ -8,7 +8,9 @@ use std::test::Fail;
 
 // Computed by another program from RFC 8439 and FIPS 180-4, for the seed 00 01 02 .. 1f and height 2.
 const ROOT: &str = "0b144d7fb833ba555a8773db4d932dba57985aa2716b2c78f45e857093e8c2b5";
+
 const LAST_LEAF: &str = "bcbaaa9f7ca6f13079ea6841dcb663ab89d7eedd88db33dcc1260c12ce9fbf83";
+
 const THIRD_SIGNATURE: &str = "653af79dfdaecc3f9d17f0e6f94b0f7a9f9d04d0c4c4906d87794243dd385236";
 
 fn is_digest(alloc: Global, digest: &Digest, text: &str) -> Result<bool, Fail> {

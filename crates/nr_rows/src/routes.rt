@@ -38,7 +38,16 @@ fn prefixes_and_their_texts(rt: HostRuntime) -> Result<(), Fail> {
         prefix(text)?.write(&mut out)?;
         assert_eq!(rt; out.as_slice(), written.as_bytes(), "of {text}");
     }
-    for text in ["10.0.0.0/33", "10.0.0/8", "010.0.0.0/8", "10.0.0.0/08", "10.0.0.256/8", "10.0.0.0", "10.0.0.0/8 ", ""] {
+    for text in [
+        "10.0.0.0/33",
+        "10.0.0/8",
+        "010.0.0.0/8",
+        "10.0.0.0/08",
+        "10.0.0.256/8",
+        "10.0.0.0",
+        "10.0.0.0/8 ",
+        "",
+    ] {
         assert!(rt; Prefix::parse(text.as_bytes()).is_none(), "of {text}");
     }
     let wide = prefix("10.0.0.0/8")?;
@@ -49,7 +58,12 @@ fn prefixes_and_their_texts(rt: HostRuntime) -> Result<(), Fail> {
     assert_eq!(rt; Prefix::new(0, 33), None);
     assert_eq!(rt; narrow.addr(), 0x0a01_0000);
     assert_eq!(rt; narrow.len(), 16);
-    let patterns = vec![in alloc; Pattern { prefix: wide, most: 16 }]?;
+    let patterns = vec![in alloc;
+        Pattern {
+            prefix: wide,
+            most: 16
+        },
+    ]?;
     let set = PrefixSet { patterns };
     assert!(rt; set.contains(&narrow) && !set.contains(&prefix("10.1.1.0/24")?));
     Ok(())
@@ -57,7 +71,8 @@ fn prefixes_and_their_texts(rt: HostRuntime) -> Result<(), Fail> {
 
 // ORIGIN EGP, AS_PATH of a sequence 64500 64501 and a set 1 2, NEXT_HOP, MED 5, LOCAL_PREF 100 with an
 // extended length, COMMUNITIES 65000:1, and a second COMMUNITIES that doesn't count.
-const BLOCK: &str = "4001010140021402020000fbf40000fbf501020000000100000002400304c0000202800404000000055005000400000064c00804fde80001c00804fde80002";
+const BLOCK: &str =
+    "4001010140021402020000fbf40000fbf501020000000100000002400304c0000202800404000000055005000400000064c00804fde80001c00804fde80002";
 
 #[test]
 fn questions_on_attributes(rt: HostRuntime) -> Result<(), Fail> {
@@ -89,7 +104,10 @@ fn questions_on_attributes(rt: HostRuntime) -> Result<(), Fail> {
         ("c008030000004001", 3),
     ] {
         let bytes = bytes_of(alloc, false, text)?;
-        assert!(rt; matches!(Attrs::read(&bytes, true), Err(Place(at)) if at == place), "of {text}");
+        assert!(rt;
+            matches!(Attrs::read(&bytes, true), Err(Place(at)) if at == place),
+            "of {text}"
+        );
     }
     Ok(())
 }
@@ -131,10 +149,27 @@ fn messages_of_each_type(rt: HostRuntime) -> Result<(), Fail> {
     let alloc = rt.alloc();
     let keepalive = bytes_of(alloc, true, "001304")?;
     assert!(rt; matches!(read(&keepalive, false), Message::Keepalive));
-    assert!(rt; matches!(write_keepalive(alloc), Ok(written) if written.as_slice() == keepalive.as_slice()));
-    assert!(rt; matches!(read(&bytes_of(alloc, true, "001d0104fbf4005ac000020100")?, false), Message::Opening));
-    assert!(rt; matches!(read(&bytes_of(alloc, true, "0015030602")?, false), Message::Notification));
-    assert!(rt; matches!(read(&bytes_of(alloc, true, "00170500010001")?, false), Message::Refresh));
+    assert!(rt;
+        matches!(write_keepalive(alloc), Ok(written) if written.as_slice() == keepalive.as_slice())
+    );
+    assert!(rt;
+        matches!(
+            read(&bytes_of(alloc, true, "001d0104fbf4005ac000020100")?, false),
+            Message::Opening
+        )
+    );
+    assert!(rt;
+        matches!(
+            read(&bytes_of(alloc, true, "0015030602")?, false),
+            Message::Notification
+        )
+    );
+    assert!(rt;
+        matches!(
+            read(&bytes_of(alloc, true, "00170500010001")?, false),
+            Message::Refresh
+        )
+    );
     Ok(())
 }
 
@@ -155,11 +190,17 @@ fn updates_are_read_and_written(rt: HostRuntime) -> Result<(), Fail> {
     let alloc = rt.alloc();
     let withdraws = bytes_of(alloc, true, "0019020002080a0000")?;
     assert_eq!(rt; counts(&withdraws, false), (1, 0, 0));
-    let both = bytes_of(alloc, true, "0031020003100a0100144001010040020602010000fbf4400304c0000202100a01")?;
+    let both = bytes_of(
+        alloc,
+        true,
+        "0031020003100a0100144001010040020602010000fbf4400304c0000202100a01",
+    )?;
     assert_eq!(rt; counts(&both, true), (1, 1, 1));
     let narrow = prefix("10.1.0.0/16")?;
     let block = bytes_of(alloc, false, "4001010040020602010000fbf4400304c0000202")?;
-    assert!(rt; matches!(write_update(alloc, &[narrow], &block, &[narrow]), Ok(written) if written.as_slice() == both.as_slice()));
+    assert!(rt;
+        matches!(write_update(alloc, &[narrow], &block, &[narrow]), Ok(written) if written.as_slice() == both.as_slice())
+    );
     Ok(())
 }
 
@@ -167,23 +208,43 @@ fn updates_are_read_and_written(rt: HostRuntime) -> Result<(), Fail> {
 fn records_are_read_and_written(rt: HostRuntime) -> Result<(), Fail> {
     let alloc = rt.alloc();
     let raw = bytes_of(alloc, true, "001304")?;
-    let mut file = bytes_of(alloc, false, "0000000a00100004000000270000fbf50000fbf400000001c0000201c0000202")?;
+    let mut file = bytes_of(
+        alloc,
+        false,
+        "0000000a00100004000000270000fbf50000fbf400000001c0000201c0000202",
+    )?;
     nr_bytes::put_bytes(&mut file, &raw)?;
     assert_eq!(rt; file.len(), 51);
-    nr_bytes::put_bytes(&mut file, bytes_of(alloc, false, "0000000a001000090000000100")?.as_slice())?;
-    write_message(&mut file, 10_000_001, 64501, 64500, 0xc000_0201, 0xc000_0209, true, &raw)?;
+    nr_bytes::put_bytes(
+        &mut file,
+        bytes_of(alloc, false, "0000000a001000090000000100")?.as_slice(),
+    )?;
+    write_message(
+        &mut file,
+        10_000_001,
+        64501,
+        64500,
+        0xc000_0201,
+        0xc000_0209,
+        true,
+        &raw,
+    )?;
     let mut cursor = Cursor::new(&file);
-    assert!(rt; matches!(
+    assert!(rt;
+        matches!(
         next(&mut cursor),
         Some(Ok(MrtItem::Message { time: 10_000_000, peer_as: 64501, peer: 0xc000_0201, local: false, as4: true, raw: read }))
             if read == raw.as_slice()
-    ));
+    )
+    );
     assert!(rt; matches!(next(&mut cursor), Some(Ok(MrtItem::Skipped))));
-    assert!(rt; matches!(
+    assert!(rt;
+        matches!(
         next(&mut cursor),
         Some(Ok(MrtItem::Message { time: 10_000_001, peer_as: 64501, peer: 0xc000_0201, local: true, as4: true, raw: read }))
             if read == raw.as_slice()
-    ));
+    )
+    );
     assert!(rt; next(&mut cursor).is_none());
     let mut cut = Cursor::new(file.get(..50).unwrap_or(&[]));
     assert!(rt; matches!(next(&mut cut), Some(Err(Place(12)))));

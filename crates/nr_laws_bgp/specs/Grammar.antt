@@ -1,0 +1,79 @@
+-- The grammar of BGP messages, by cases on their bytes (RFC 4271, section 4). It says which bytes are a
+-- message and what it means, and nothing of how it is read.
+use Rattle.std.specs.Prelude.{◌≡◌, ℕ, ◌≤◌, Bool, true, List, [], ◌∷◌, ◌++◌, length, replicate, ◌⊎◌}
+use Rattle.byteorder.specs.Endian.{big_number}
+use Rattle.nr_spec_bgp.specs.Prefixes.{Cidr, masked, address_of, bytes_for}
+use Rattle.nr_spec_bgp.specs.Attributes.{Attribute, size_bytes, may_follow, is_complete}
+use Rattle.nr_spec_bgp.specs.Messages.{Changes, Meaning, Opens, Updates, Notifies, KeepsAlive, Refreshes}
+
+-- a field of that many bytes which holds the number
+pub record Holds (size n : ℕ) (field : List ℕ) : Type 0 where
+  pub len : length field ≡ size
+  pub value : big_number size field ≡ n
+
+-- ---- prefixes
+
+-- a prefix in front of the bytes, and what stands behind it
+pub record IsCidrIn (bytes : List ℕ) (p : Cidr) (more : List ℕ) : Type 0 where
+  pub len : ℕ
+  pub piece : List ℕ
+  pub spelled : bytes ≡ len ∷ (piece ++ more)
+  pub short : len ≤ 32
+  pub whole : length piece ≡ bytes_for len
+  pub value : p ≡ masked (address_of piece) len
+
+-- prefixes one behind another, and nothing else
+abbrev pub AreCidrs : List ℕ → List Cidr → Type 0
+AreCidrs bytes [] = bytes ≡ []
+AreCidrs bytes (p ∷ cidrs) = (more : List ℕ) × IsCidrIn bytes p more × AreCidrs more cidrs
+
+-- ---- attributes
+
+-- an attribute in front of the bytes: flags, type, length and value
+pub record IsAttributeIn (bytes : List ℕ) (a : Attribute) (more : List ℕ) : Type 0 where
+  pub flags : ℕ
+  pub size : List ℕ
+  pub spelled : bytes ≡ flags ∷ a.kind ∷ (size ++ (a.value ++ more))
+  pub sized : Holds (size_bytes flags) (length a.value) size
+
+-- attributes one behind another, and nothing else, each of which may follow those before
+abbrev pub AreAttributes : Bool → List Attribute → List ℕ → List Attribute → Type 0
+AreAttributes as4 before bytes [] = bytes ≡ []
+AreAttributes as4 before bytes (a ∷ list) = (more : List ℕ) × IsAttributeIn bytes a more × (may_follow as4 before a ≡ true) × AreAttributes as4 (before ++ a ∷ []) more list
+
+-- ---- messages
+
+-- a header and a body
+pub record IsMessageOf (raw : List ℕ) (kind : ℕ) (body : List ℕ) : Type 0 where
+  pub size : List ℕ
+  pub spelled : raw ≡ replicate 16 255 ++ (size ++ (kind ∷ body))
+  pub sized : Holds 2 (length raw) size
+
+-- OPEN: ten bytes, of which the last is the length of the parameters, and the parameters
+pub record IsOpen (body : List ℕ) : Type 0 where
+  pub fixed : List ℕ
+  pub parameters : List ℕ
+  pub spelled : body ≡ fixed ++ (length parameters ∷ parameters)
+  pub whole : length fixed ≡ 9
+
+pub record IsUpdate (as4 : Bool) (body : List ℕ) (c : Changes) : Type 0 where
+  pub withdrawn_size : List ℕ
+  pub withdrawn_part : List ℕ
+  pub block_size : List ℕ
+  pub announced_part : List ℕ
+  pub spelled : body ≡ withdrawn_size ++ (withdrawn_part ++ (block_size ++ (c.attributes.block ++ announced_part)))
+  pub withdrawn_sized : Holds 2 (length withdrawn_part) withdrawn_size
+  pub block_sized : Holds 2 (length c.attributes.block) block_size
+  pub withdrawn : AreCidrs withdrawn_part c.withdrawn
+  pub as4_is : c.attributes.as4 ≡ as4
+  pub attributes : AreAttributes as4 [] c.attributes.block c.attributes.list
+  pub announced : AreCidrs announced_part c.announced
+  pub complete : (length announced_part ≡ 0) ⊎ (is_complete c.attributes.list ≡ true)
+
+-- which bytes are a message, and what it means
+abbrev pub IsMessage : Bool → List ℕ → Meaning → Type 0
+IsMessage as4 raw Opens = (body : List ℕ) × IsMessageOf raw 1 body × IsOpen body
+IsMessage as4 raw (Updates c) = (body : List ℕ) × IsMessageOf raw 2 body × IsUpdate as4 body c
+IsMessage as4 raw Notifies = (body : List ℕ) × IsMessageOf raw 3 body × (2 ≤ length body)
+IsMessage as4 raw KeepsAlive = IsMessageOf raw 4 []
+IsMessage as4 raw Refreshes = (body : List ℕ) × IsMessageOf raw 5 body × (4 ≤ length body)
