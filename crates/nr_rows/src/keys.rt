@@ -1,12 +1,15 @@
 //! One-time keys, trees and signatures. Expected values come from RFC 8439, FIPS 180-4 and `bench/keys.py`.
 
-use nr_bytes::{Cursor, Place};
+ghost use Rattle.std.specs.Prelude.{◌<◌};
+
+use nr_bytes::{Cursor, Memory, Place};
 use nr_chain::{Digest, sha256};
 use nr_lamport::{Seed, leaf_of, public_leaf, sign};
 use nr_merkle::{Sig, Tree, verify};
 use rand_chacha::ChaCha20Rng;
 use rand_core::SeedableRng;
 use rand_core::utils::NextWord;
+use std::alloc::Global;
 use std::test::Fail;
 
 /// The bytes 0, 1, .. 31.
@@ -129,6 +132,15 @@ fn checked(root: &Digest, body: &[u8], bytes: &[u8]) -> Result<bool, Place> {
     Ok(cursor.left() == 0 && verify(root, body, &sig))
 }
 
+// Signs with a leaf of the seed's tree of height 2, and answers the root.
+fn put_signature(alloc: Global, seed: &Seed, leaf: u32, out: &mut Vec<u8>) -> Result<Digest, Memory>
+    requires { leaf < 4 }
+{
+    let tree = Tree::build(alloc, seed, 2)?;
+    tree.sign(seed, leaf, b"body", out)?;
+    Ok(tree.root())
+}
+
 #[test]
 fn each_leaf_signs(rt: HostRuntime) -> Result<(), Fail> {
     // One changed byte in each part: the leaf's number, the height, a secret, a public digest, the two
@@ -150,17 +162,16 @@ fn each_leaf_signs(rt: HostRuntime) -> Result<(), Fail> {
         "8d542888d96954ea336b029c07b9461162b6da1c4722fe413b5ff51a01847c7e",
     ];
     let seed = Seed(SEED);
-    let tree = Tree::build(rt.alloc(), &seed, 2)?;
-    let root = tree.root();
-    assert!(rt;
-        is_hex(
-            &root,
-            "0b144d7fb833ba555a8773db4d932dba57985aa2716b2c78f45e857093e8c2b5"
-        )
-    );
-    for (leaf, digest) in digests.iter().enumerate() {
+    for leaf in 0..4u32 {
+        let digest = digests.get(leaf as usize).copied().unwrap_or("");
         let mut bytes = Vec::new(rt.alloc());
-        tree.sign(&seed, leaf as u32, b"body", &mut bytes)?;
+        let root = put_signature(rt.alloc(), &seed, leaf, &mut bytes)?;
+        assert!(rt;
+            is_hex(
+                &root,
+                "0b144d7fb833ba555a8773db4d932dba57985aa2716b2c78f45e857093e8c2b5"
+            )
+        );
         assert!(rt; is_hex(&sha256(&bytes), digest), "leaf {leaf}");
         assert_eq!(rt; checked(&root, b"body", &bytes), Ok(true), "leaf {leaf}");
         assert_eq!(rt; checked(&root, b"Body", &bytes), Ok(false), "leaf {leaf}");
