@@ -1,13 +1,22 @@
 -- Fields as pieces of the bytes: what is read is such a piece, and such a piece is read.
-use Rattle.std.proofs.Common.{◌≡◌, ℕ, ◌+◌, ◌≤◌, ltb, List, [], ◌∷◌, ◌++◌, length, take, drop, Ok, refl, sym, subst, ◌∙◌, arith, length-take}
+use Rattle.std.proofs.Common.{◌≡◌, ℕ, ◌+◌, ◌≤◌, Bool, true, false, cond, ltb, List, [], ◌∷◌, ◌++◌, length, take, drop, Result, Ok, Err, refl, sym, subst, ◌∙◌, arith, length-take, length-append}
 use Rattle.std.proofs.lemmas.List.{take-append-drop, drop_at}
-use Rattle.std.proofs.lemmas.Bool.{ltb-false}
+use Rattle.std.proofs.lemmas.Bool.{ltb-false, le-ltb}
 use Rattle.byteorder.specs.Endian.{big_number}
 use Rattle.byteorder.specs.Numbers.{big_from-take, big_from-append}
+use Rattle.nr_spec_wire.proofs.Steps.{ok_is}
 use Rattle.nr_spec_wire.specs.Reading.{Spot, past, number_at, bytes_at, part_at}
-use Rattle.nr_spec_bgp.proofs.Steps.{guard_ok, number_takes, bytes_takes}
-use Rattle.nr_spec_bgp.proofs.Back.{spot, enough}
+use Rattle.nr_spec_bgp.proofs.Steps.{number_takes, bytes_takes}
+use Rattle.nr_spec_bgp.proofs.Back.{spot}
 use Rattle.nr_laws_bgp.specs.Grammar.{Holds}
+
+enough : (xs more : List ℕ) (n : ℕ) → length xs ≡ n → ltb (length (xs ++ more)) n ≡ false
+enough xs more n e = le-ltb _ _ (omega (arith, length-append xs more))
+
+-- a test that did not fail
+guard_ok : {A : Type 0} (b : Bool) (d : ℕ) (x y : A) → cond b (Err d) (Ok x) ≡ Ok y → (b ≡ false) × (x ≡ y)
+guard_ok true d x y e = absurd cc
+guard_ok false d x y e = (refl, ok_is x y e)
 
 -- a field in front of the bytes
 pub record IsField (size n : ℕ) (bytes more : List ℕ) : Type 0 where
