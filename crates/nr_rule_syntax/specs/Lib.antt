@@ -1,0 +1,5 @@
+pub mod Nesting
+pub mod Nests
+pub mod Printing
+pub mod Reading
+pub mod Views

@@ -1,0 +1,170 @@
+//! The steps of a parser: single tokens, with what their text stands for. A refusal leaves the tokens at the
+//! one that is refused.
+
+ghost use Rattle.std.specs.Prelude.{◌≡◌, ◌<◌, length, true, OnOk};
+ghost use Rattle.nr_spec_rules.specs.Tokens.{goes_on, kind_of, place_of};
+ghost use Rattle.nr_spec_rules.specs.Parsing as parsing;
+ghost use Rattle.nr_rule_syntax.specs.Reading as spec;
+ghost use Rattle.nr_rule_syntax.specs.Views.{Reads, IsOnward};
+
+use crate::fault::ParseError;
+use crate::tree::{Name, Num, PrefixText, RootText};
+use crate::word::Word;
+use nr_bytes::Place;
+use nr_chain::Digest;
+use nr_prefix::Prefix;
+use nr_rule_tokens::{Tokens, same_kind};
+use nr_spec_rules::{Kind, Span};
+use std::alloc::Global;
+
+/// Why the next token isn't read.
+pub fn refused(tokens: &Tokens<'_>) -> ParseError
+    ensures { result ≡ ParseError.At (record { 0 = place_of tokens.now }) }
+{
+    ParseError::At(Place(u64::from(tokens.place())))
+}
+
+/// Whether the next token is of this kind.
+pub fn sees(tokens: &Tokens<'_>, kind: Kind) -> bool
+    ensures value { result ≡ parsing.sees kind tokens.now }
+    ensures same { result ≡ true → kind_of tokens.now ≡ kind }
+{
+    same_kind(tokens.kind(), kind)
+}
+
+/// A token of this kind, and where it stands.
+#[tactic(auto, unfolding(nr_spec_rules::specs::Parsing::expect))]
+pub fn expect(tokens: &mut Tokens<'_>, kind: Kind) -> Result<Span, ParseError>
+    requires { goes_on kind ≡ true }
+    ensures value { Reads (parsing.expect kind tokens.old) result tokens.new }
+    ensures onward { IsOnward tokens.old tokens.new }
+    ensures shorter { OnOk result (length tokens.new < length tokens.old) }
+{
+    if !sees(tokens, kind) {
+        return Err(refused(tokens));
+    }
+    let span = tokens.span();
+    tokens.pass();
+    Ok(span)
+}
+
+#[tactic(auto, unfolding(nr_spec_rules::specs::Parsing::valued, crate::specs::Reading::name))]
+pub fn name(alloc: Global, tokens: &mut Tokens<'_>) -> Result<Name, ParseError>
+    ensures value { Reads (spec.name tokens.old) result tokens.new }
+    ensures onward { IsOnward tokens.old tokens.new }
+{
+    if !sees(tokens, Kind::Name) {
+        return Err(refused(tokens));
+    }
+    let span = tokens.span();
+    let word = Word::from_slice(alloc, tokens.text())?;
+    tokens.pass();
+    Ok(Name { word, span })
+}
+
+#[tactic(auto, unfolding(nr_spec_rules::specs::Parsing::valued, crate::specs::Reading::number))]
+pub fn number(tokens: &mut Tokens<'_>) -> Result<Num, ParseError>
+    ensures value { Reads (spec.number tokens.old) result tokens.new }
+    ensures onward { IsOnward tokens.old tokens.new }
+{
+    if !sees(tokens, Kind::Number) {
+        return Err(refused(tokens));
+    }
+    let span = tokens.span();
+    match nr_rule_tokens::number(tokens.text()) {
+        None => Err(refused(tokens)),
+        Some(value) => {
+            tokens.pass();
+            Ok(Num { value, span })
+        }
+    }
+}
+
+#[tactic(auto, unfolding(nr_spec_rules::specs::Parsing::valued, crate::specs::Reading::address))]
+pub fn address(tokens: &mut Tokens<'_>) -> Result<Num, ParseError>
+    ensures value { Reads (spec.address tokens.old) result tokens.new }
+    ensures onward { IsOnward tokens.old tokens.new }
+{
+    if !sees(tokens, Kind::Address) {
+        return Err(refused(tokens));
+    }
+    let span = tokens.span();
+    match nr_rule_tokens::address(tokens.text()) {
+        None => Err(refused(tokens)),
+        Some(value) => {
+            tokens.pass();
+            Ok(Num { value, span })
+        }
+    }
+}
+
+#[tactic(auto, unfolding(nr_spec_rules::specs::Parsing::valued, crate::specs::Reading::community))]
+pub fn community(tokens: &mut Tokens<'_>) -> Result<u32, ParseError>
+    ensures value { Reads (spec.community tokens.old) result tokens.new }
+    ensures onward { IsOnward tokens.old tokens.new }
+{
+    if !sees(tokens, Kind::Community) {
+        return Err(refused(tokens));
+    }
+    match nr_rule_tokens::community(tokens.text()) {
+        None => Err(refused(tokens)),
+        Some(value) => {
+            tokens.pass();
+            Ok(value)
+        }
+    }
+}
+
+#[tactic(auto, unfolding(nr_spec_rules::specs::Parsing::valued, crate::specs::Reading::prefix))]
+pub fn prefix(tokens: &mut Tokens<'_>) -> Result<PrefixText, ParseError>
+    ensures value { Reads (spec.prefix tokens.old) result tokens.new }
+    ensures onward { IsOnward tokens.old tokens.new }
+{
+    if !sees(tokens, Kind::Prefix) {
+        return Err(refused(tokens));
+    }
+    let span = tokens.span();
+    match nr_rule_tokens::prefix(tokens.text()) {
+        None => Err(refused(tokens)),
+        Some((addr, len)) => match Prefix::new(addr, len) {
+            None => Err(refused(tokens)),
+            Some(prefix) => {
+                tokens.pass();
+                Ok(PrefixText { prefix, span })
+            }
+        },
+    }
+}
+
+#[tactic(auto, unfolding(nr_spec_rules::specs::Parsing::valued, crate::specs::Reading::root))]
+pub fn root(tokens: &mut Tokens<'_>) -> Result<RootText, ParseError>
+    ensures value { Reads (spec.root tokens.old) result tokens.new }
+    ensures onward { IsOnward tokens.old tokens.new }
+{
+    if !sees(tokens, Kind::Root) {
+        return Err(refused(tokens));
+    }
+    let span = tokens.span();
+    match nr_rule_tokens::root(tokens.text()) {
+        None => Err(refused(tokens)),
+        Some(bytes) => {
+            tokens.pass();
+            Ok(RootText {
+                digest: Digest(bytes),
+                span,
+            })
+        }
+    }
+}
+
+/// `( NAME )`
+#[tactic(auto, unfolding(crate::specs::Reading::argument))]
+pub fn argument(alloc: Global, tokens: &mut Tokens<'_>) -> Result<Name, ParseError>
+    ensures value { Reads (spec.argument tokens.old) result tokens.new }
+    ensures onward { IsOnward tokens.old tokens.new }
+{
+    expect(tokens, Kind::OpenParen)?;
+    let of = name(alloc, tokens)?;
+    expect(tokens, Kind::CloseParen)?;
+    Ok(of)
+}

@@ -1,0 +1,152 @@
+//! Terms, comparisons and routes: what holds no formula.
+
+ghost use Rattle.std.specs.Prelude.{◌≡◌, IfOk};
+ghost use Rattle.nr_rule_syntax.specs.Nesting.{measured, flat};
+ghost use Rattle.nr_rule_syntax.specs.Reading as spec;
+ghost use Rattle.nr_rule_syntax.specs.Views.{Reads, IsOnward};
+
+use crate::fault::ParseError;
+use crate::step::{address, argument, community, expect, name, number, refused};
+use crate::tree::{Cmp, Form, Name, Side, Term};
+use nr_rule_tokens::Tokens;
+use nr_spec_rules::Kind;
+use std::alloc::Global;
+
+/// A number, an address, `bits`, or a word with a name in parentheses.
+#[tactic(auto, unfolding(crate::specs::Reading::term))]
+pub fn term(alloc: Global, tokens: &mut Tokens<'_>) -> Result<Term, ParseError>
+    ensures value { Reads (spec.term tokens.old) result tokens.new }
+    ensures onward { IsOnward tokens.old tokens.new }
+{
+    match tokens.kind() {
+        Kind::Number => Ok(Term::Number(number(tokens)?)),
+        Kind::Address => Ok(Term::Number(address(tokens)?)),
+        Kind::Bits => {
+            tokens.pass();
+            Ok(Term::Bits)
+        }
+        Kind::Length => {
+            tokens.pass();
+            Ok(Term::Length(argument(alloc, tokens)?))
+        }
+        Kind::Med => {
+            tokens.pass();
+            Ok(Term::Med(argument(alloc, tokens)?))
+        }
+        Kind::Pref => {
+            tokens.pass();
+            Ok(Term::Pref(argument(alloc, tokens)?))
+        }
+        Kind::Origin => {
+            tokens.pass();
+            Ok(Term::Origin(argument(alloc, tokens)?))
+        }
+        Kind::First => {
+            tokens.pass();
+            Ok(Term::First(argument(alloc, tokens)?))
+        }
+        Kind::Last => {
+            tokens.pass();
+            Ok(Term::Last(argument(alloc, tokens)?))
+        }
+        Kind::Hop => {
+            tokens.pass();
+            Ok(Term::Hop(argument(alloc, tokens)?))
+        }
+        Kind::Asn => {
+            tokens.pass();
+            Ok(Term::Asn(argument(alloc, tokens)?))
+        }
+        _ => Err(refused(tokens)),
+    }
+}
+
+#[tactic(auto, unfolding(crate::specs::Reading::comparison))]
+fn comparison(tokens: &mut Tokens<'_>) -> Result<Cmp, ParseError>
+    ensures value { Reads (spec.comparison tokens.old) result tokens.new }
+    ensures onward { IsOnward tokens.old tokens.new }
+{
+    let op = match tokens.kind() {
+        Kind::Equal => Cmp::Eq,
+        Kind::Unequal => Cmp::Ne,
+        Kind::Less => Cmp::Lt,
+        Kind::LessOrEqual => Cmp::Le,
+        Kind::Greater => Cmp::Gt,
+        Kind::GreaterOrEqual => Cmp::Ge,
+        _ => return Err(refused(tokens)),
+    };
+    tokens.pass();
+    Ok(op)
+}
+
+/// `Term Cmp Term`
+#[tactic(auto, unfolding(crate::specs::Reading::compared))]
+pub fn compared(alloc: Global, tokens: &mut Tokens<'_>) -> Result<Form, ParseError>
+    ensures value { Reads (spec.compared tokens.old) result tokens.new }
+    ensures nests { IfOk result (λ form. measured form ≡ flat) }
+    ensures onward { IsOnward tokens.old tokens.new }
+{
+    let left = term(alloc, tokens)?;
+    let op = comparison(tokens)?;
+    let right = term(alloc, tokens)?;
+    Ok(Form::Compare { left, op, right })
+}
+
+/// `sent ( NAME )` or `received ( NAME )`
+#[tactic(auto, unfolding(crate::specs::Reading::route))]
+pub fn route(alloc: Global, tokens: &mut Tokens<'_>) -> Result<(Side, Name), ParseError>
+    ensures value { Reads (spec.route tokens.old) result tokens.new }
+    ensures onward { IsOnward tokens.old tokens.new }
+{
+    match tokens.kind() {
+        Kind::Sent => {
+            tokens.pass();
+            Ok((Side::Sent, argument(alloc, tokens)?))
+        }
+        Kind::Received => {
+            tokens.pass();
+            Ok((Side::Received, argument(alloc, tokens)?))
+        }
+        _ => Err(refused(tokens)),
+    }
+}
+
+/// `has COMMUNITY`, `crosses Term` or `is NAME`, behind a name.
+#[tactic(auto, unfolding(crate::specs::Reading::about))]
+pub fn about(alloc: Global, tokens: &mut Tokens<'_>, var: Name) -> Result<Form, ParseError>
+    ensures value { Reads (spec.about var tokens.old) result tokens.new }
+    ensures nests { IfOk result (λ form. measured form ≡ flat) }
+    ensures onward { IsOnward tokens.old tokens.new }
+{
+    match tokens.kind() {
+        Kind::Has => {
+            tokens.pass();
+            let community = community(tokens)?;
+            Ok(Form::Has { var, community })
+        }
+        Kind::Crosses => {
+            tokens.pass();
+            let term = term(alloc, tokens)?;
+            Ok(Form::Crosses { var, term })
+        }
+        Kind::Is => {
+            tokens.pass();
+            let right = name(alloc, tokens)?;
+            Ok(Form::Is { left: var, right })
+        }
+        _ => Err(refused(tokens)),
+    }
+}
+
+/// `prefix in NAME`
+#[tactic(auto, unfolding(crate::specs::Reading::in_set))]
+pub fn in_set(alloc: Global, tokens: &mut Tokens<'_>) -> Result<Form, ParseError>
+    ensures value { Reads (spec.in_set tokens.old) result tokens.new }
+    ensures nests { IfOk result (λ form. measured form ≡ flat) }
+    ensures onward { IsOnward tokens.old tokens.new }
+{
+    expect(tokens, Kind::PrefixWord)?;
+    expect(tokens, Kind::In)?;
+    let set = name(alloc, tokens)?;
+    Ok(Form::PrefixIn { set })
+}

@@ -1,0 +1,6 @@
+/// Where a piece of the text stands: from its first byte up to the byte behind its last, as offsets.
+#[derive(Clone, Copy, Debug, PartialEq, Eq)]
+pub struct Span {
+    pub from: u32,
+    pub to: u32,
+}
