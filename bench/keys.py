@@ -29,24 +29,22 @@ def sha256(data):
     return hashlib.sha256(data).digest()
 
 
+def rotated(word, count):
+    """The word of 32 bits, rotated to the left by so many bits."""
+    return (word << count | word >> (32 - count)) & WORD
+
+
 def chacha20_block(key, counter, stream):
     """The 64 bytes of one block: `key` has 32 bytes, `counter` and `stream` are numbers below 2^64."""
     start = CONSTANTS + struct.unpack("<8I", key) + struct.unpack("<4I", struct.pack("<2Q", counter, stream))
     x = list(start)
     for _ in range(10):
         for a, b, c, d in QUARTERS:
-            x[a] = (x[a] + x[b]) & WORD
-            x[d] ^= x[a]
-            x[d] = (x[d] << 16 | x[d] >> 16) & WORD
-            x[c] = (x[c] + x[d]) & WORD
-            x[b] ^= x[c]
-            x[b] = (x[b] << 12 | x[b] >> 20) & WORD
-            x[a] = (x[a] + x[b]) & WORD
-            x[d] ^= x[a]
-            x[d] = (x[d] << 8 | x[d] >> 24) & WORD
-            x[c] = (x[c] + x[d]) & WORD
-            x[b] ^= x[c]
-            x[b] = (x[b] << 7 | x[b] >> 25) & WORD
+            for left, right in ((16, 12), (8, 7)):
+                x[a] = (x[a] + x[b]) & WORD
+                x[d] = rotated(x[d] ^ x[a], left)
+                x[c] = (x[c] + x[d]) & WORD
+                x[b] = rotated(x[b] ^ x[c], right)
     return struct.pack("<16I", *((word + first) & WORD for word, first in zip(x, start)))
 
 
