@@ -1,6 +1,6 @@
 //! Laws of the place of a refusal.
 
-ghost use Rattle.std.specs.Prelude.{◌≡◌, ◌+◌, ℕ, List, length, Err};
+ghost use Rattle.std.specs.Prelude.{◌≡◌, ℕ, List, Err};
 ghost use Rattle.nr_spec_rules.specs.Tokens.{Token, tokens_of};
 ghost use Rattle.nr_rule_syntax.specs.Reading.{file_of};
 ghost use Rattle.nr_laws_rules.specs.Refusal.{IsRefusedAt};
