@@ -7,8 +7,12 @@ use std::test::Fail;
 const MOST: usize = 1_048_576;
 
 // A text, and the one that is printed for it.
-const PRINTED: [(&[u8], &[u8]); 40] = [
+const PRINTED: [(&[u8], &[u8]); 41] = [
     (b"", b""),
+    (
+        b"network 64500; commit 60;\n",
+        b"network 64500;\ncommit 60;\n",
+    ),
     (b"network 64500;", b"network 64500;\n"),
     (
         b"network 0;commit 4294967295;",
@@ -149,8 +153,33 @@ const PRINTED: [(&[u8], &[u8]); 40] = [
     ),
 ];
 
+// The examples of `docs/promises.md`: each with the one text that is printed for it.
+const EXAMPLES: [(&[u8], &[u8]); 4] = [
+    (
+        b"network 64500;\ncommit 60;\nneighbour transit as 64510 at 192.0.2.10;\nneighbour peer_a as 64511 at 192.0.2.11;\nneighbour peer_b as 64512 at 192.0.2.12;\ngroup peers = peer_a, peer_b;\n\n// Routes that carry 64500:666 stay inside.\npromise no_export grace 30 {\n  all n in peers { if r = sent(n) then not r has 64500:666 else true end }\n}\n",
+        b"network 64500;\ncommit 60;\nneighbour transit as 64510 at 192.0.2.10;\nneighbour peer_a as 64511 at 192.0.2.11;\nneighbour peer_b as 64512 at 192.0.2.12;\ngroup peers = peer_a, peer_b;\npromise no_export grace 30 { all n in peers { if r = sent(n) then not r has 64500:666 else true end } }\n",
+    ),
+    (
+        b"network 64500;\ncommit 60;\nneighbour customer as 64520 at 192.0.2.20;\nneighbour peer_a as 64511 at 192.0.2.11;\n\npromise prefer_customer grace 60 {\n  if s = sent(peer_a)\n  then received(customer) implies s crosses asn(customer)\n  else true end\n}\n",
+        b"network 64500;\ncommit 60;\nneighbour customer as 64520 at 192.0.2.20;\nneighbour peer_a as 64511 at 192.0.2.11;\npromise prefer_customer grace 60 { if s = sent(peer_a) then received(customer) implies s crosses asn(customer) else true end }\n",
+    ),
+    (
+        b"network 64500;\ncommit 60;\nneighbour peer_a as 64511 at 192.0.2.11;\nneighbour peer_b as 64512 at 192.0.2.12;\ngroup peers = peer_a, peer_b;\ndefine own = 198.51.100.0/24 le 26, 203.0.113.0/24;\n\npromise only_own grace 0 {\n  all n in peers { sent(n) implies prefix in own }\n}\n",
+        b"network 64500;\ncommit 60;\nneighbour peer_a as 64511 at 192.0.2.11;\nneighbour peer_b as 64512 at 192.0.2.12;\ngroup peers = peer_a, peer_b;\ndefine own = 198.51.100.0/24 le 26, 203.0.113.0/24;\npromise only_own grace 0 { all n in peers { sent(n) implies prefix in own } }\n",
+    ),
+    (
+        b"network 64500;\ncommit 60;\nneighbour transit_a as 64510 at 192.0.2.10;\nneighbour transit_b as 64513 at 192.0.2.13;\ngroup upstreams = transit_a, transit_b;\n\npromise reachable grace 300 at 203.0.113.0/24, 198.51.100.0/24 {\n  some n in upstreams { sent(n) }\n}\n",
+        b"network 64500;\ncommit 60;\nneighbour transit_a as 64510 at 192.0.2.10;\nneighbour transit_b as 64513 at 192.0.2.13;\ngroup upstreams = transit_a, transit_b;\npromise reachable grace 300 at 203.0.113.0/24, 198.51.100.0/24 { some n in upstreams { sent(n) } }\n",
+    ),
+];
+
 // A text, and the offset of the token that is refused.
-const REFUSED: [(&[u8], u64); 94] = [
+const REFUSED: [(&[u8], u64); 95] = [
+    // The example of docs/promises.md.
+    (
+        b"network 64500;\ncommit 60;\nneighbour p as 64501 at 192.0.2.1;\ngroup peers = p;\npromise t grace 0 { all n in peers { if r = sent(n) then r has 65000:1 end } }\n",
+        149,
+    ),
     (b"network 01;", 8),
     (b"network 4294967296;", 8),
     (b"network 1.2;", 8),
@@ -290,6 +319,18 @@ const LEVELS: [(&[u8], u64, &[u8]); 6] = [
 #[test]
 fn prints_one_text(rt: HostRuntime) -> Result<(), Fail> {
     for (text, expected) in &PRINTED {
+        if text.len() <= MOST {
+            let file = parse(rt.alloc(), text).ok().ok_or("refused")?;
+            let printed = print(rt.alloc(), &file).ok().ok_or("memory")?;
+            assert_eq!(rt; printed.as_slice(), *expected);
+        }
+    }
+    Ok(())
+}
+
+#[test]
+fn prints_the_examples(rt: HostRuntime) -> Result<(), Fail> {
+    for (text, expected) in &EXAMPLES {
         if text.len() <= MOST {
             let file = parse(rt.alloc(), text).ok().ok_or("refused")?;
             let printed = print(rt.alloc(), &file).ok().ok_or("memory")?;
