@@ -1,6 +1,6 @@
 -- What a run may answer, what the sink has of it, and what it leaves of the files.
-use Rattle.std.specs.Prelude.{◌≡◌, ◌≢◌, ℕ, Bool, false, ◌⊎◌, List, [], ◌∷◌, ◌++◌, Option, None, Some}
-use Rattle.nr_ports.specs.Ports.{Contents, ChangesOnly}
+use Rattle.std.specs.Prelude.{◌≡◌, ℕ, Bool, false, ◌⊎◌, List, [], ◌∷◌, ◌++◌, length, Option, None, Some}
+use Rattle.nr_ports.specs.Ports.{Contents, ChangesOnly, Torn, TornCut, TornWrite}
 use Rattle.nr_ports.specs.Views.{TookSome}
 use Rattle.netreview.specs.Command.{Ending, Output, read_fault_ending, write_fault_ending, memory_ending}
 
@@ -32,16 +32,16 @@ abbrev pub Leaves : Contents → Option Output → Option Contents → Type 0
 Leaves held None new = new ≡ Some held
 Leaves held (Some output) new = ChangesOnly held output.name (λ file. file ≡ Some output.bytes) new
 
--- a name is none of these
-abbrev pub IsOutside : List (List ℕ) → List ℕ → Type 0
-IsOutside [] other = Unit {0}
-IsOutside (name ∷ names) other = (other ≢ name) × IsOutside names other
+-- What a cut to nothing, or a write of these bytes behind it, may leave: what was there, a part of it that was cut or
+-- overwritten, or a part of the bytes.
+abbrev pub IsLeft : List ℕ → Option (List ℕ) → Option (List ℕ) → Type 0
+IsLeft bytes old file = Torn (TornCut 0) old file ⊎ Torn (TornWrite 0 (length bytes)) (Some []) file
 
--- The contents are still told, and every name but these holds what it held.
-pub record SparesOthers (held : Contents) (names : List (List ℕ)) (new : Option Contents) : Type 0 where
-  pub now : Contents
-  pub told : new ≡ Some now
-  pub others : (other : List ℕ) → IsOutside names other → now other ≡ held other
+-- Whatever stopped the command, the file that it writes holds what writing it may leave, and every other name what it
+-- held.
+abbrev pub MayLeave : Contents → Option Output → Option Contents → Type 0
+MayLeave held None new = new ≡ Some held
+MayLeave held (Some output) new = ChangesOnly held output.name (IsLeft output.bytes (held output.name)) new
 
 -- A crash leaves under each of these names what a read gives.
 abbrev pub AreSynced : (List ℕ → Bool) → List (List ℕ) → Type 0

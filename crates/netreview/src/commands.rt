@@ -4,7 +4,7 @@ ghost use Rattle.std.specs.Prelude.{◌≡◌, ◌≢◌, ◌≤◌, [], Some, I
 ghost use Rattle.nr_ports.specs.Ports.{Contents};
 ghost use Rattle.netreview.specs.Words.{outputs_of};
 ghost use Rattle.netreview.specs.Command.{decided, output_of};
-ghost use Rattle.netreview.specs.Running.{AreSynced, Leaves, SparesOthers};
+ghost use Rattle.netreview.specs.Running.{AreSynced, Leaves, MayLeave};
 ghost use Rattle.netreview.specs.Views.{Decides, CountsReads, CountsWrites, Unchanged};
 ghost use Rattle.netreview.specs.Requests.{request_of};
 ghost use Rattle.netreview.specs.Endings.{ending_of};
@@ -31,8 +31,8 @@ pub fn perform<F: Files>(
         → OnOk result (Leaves held (output_of held (request_of request.now)) (F.holds files.new)) }
     ensures synced { OnOk result (AreSynced (F.is_pending files.new) (outputs_of (request_of request.now))) }
     ensures same { Unchanged result (F.holds files.new ≡ F.holds files.old) }
-    ensures others { (held : Contents) → F.holds files.old ≡ Some held
-        → SparesOthers held (outputs_of (request_of request.now)) (F.holds files.new) }
+    ensures left { (held : Contents) → F.holds files.old ≡ Some held
+        → MayLeave held (output_of held (request_of request.now)) (F.holds files.new) }
     ensures reading { outputs_of (request_of request.now) ≡ [] → F.holds files.new ≡ F.holds files.old }
     ensures no_write { outputs_of (request_of request.now) ≡ [] → result ≢ Err Stop.WriteFault }
     ensures no_write_count { outputs_of (request_of request.now) ≡ [] → F.write_faults files.new ≡ F.write_faults files.old }

@@ -7,7 +7,7 @@ ghost use Rattle.nr_spec_history.specs.KeyFiles.{key_file, key_root};
 ghost use Rattle.nr_spec_history.specs.Report.{line};
 ghost use Rattle.nr_ports.specs.Ports.{Contents, ChangesOnly};
 ghost use Rattle.netreview.specs.Command.{keygen_of, made, key_ending, key_output};
-ghost use Rattle.netreview.specs.Running.{Leaves};
+ghost use Rattle.netreview.specs.Running.{Leaves, MayLeave};
 ghost use Rattle.netreview.specs.Views.{Decides, CountsReads, CountsWrites, Unchanged};
 ghost use Rattle.netreview.specs.Requests.{keygen_request_of};
 ghost use Rattle.netreview.specs.Endings.{ending_of, key_of};
@@ -102,8 +102,8 @@ pub fn keygen<F: Files>(
         → OnOk result (Leaves held (key_output request.now.key.now (keygen_of held (keygen_request_of request.now))) (F.holds files.new)) }
     ensures synced { OnOk result (F.is_pending files.new request.now.key.now ≡ false) }
     ensures same { Unchanged result (F.holds files.new ≡ F.holds files.old) }
-    ensures others { (held : Contents) → F.holds files.old ≡ Some held
-        → ChangesOnly held request.now.key.now (λ _. Unit {0}) (F.holds files.new) }
+    ensures left { (held : Contents) → F.holds files.old ≡ Some held
+        → MayLeave held (key_output request.now.key.now (keygen_of held (keygen_request_of request.now))) (F.holds files.new) }
 {
     let seed = read_key(alloc, files, request)?;
     let ending = key_ending(alloc, request, &seed)?;

@@ -7,7 +7,7 @@ ghost use Rattle.netreview.specs.Words.{request_in, outputs_in};
 ghost use Rattle.netreview.specs.Command.{Ending, answered, output_in, run_of};
 ghost use Rattle.netreview.specs.Requests.{request_of};
 ghost use Rattle.netreview.specs.Endings.{fixed_of};
-ghost use Rattle.netreview.specs.Running.{MayEnd, Delivers, Leaves, SparesOthers, AreSynced};
+ghost use Rattle.netreview.specs.Running.{MayEnd, Delivers, Leaves, MayLeave, AreSynced};
 
 use crate::commands::perform;
 use crate::ending::{Fixed, out_of_memory, read_fault, refused, usage, write_fault};
@@ -62,8 +62,8 @@ fn run_request<F: Files, S: Sink>(
         → Leaves held (output_in held (Some (request_of request.now))) (F.holds files.new) }
     ensures synced { result ≡ 0 → AreSynced (F.is_pending files.new) (outputs_in (Some (request_of request.now))) }
     ensures same { result ≢ 0 → result ≢ 5 → result ≢ 6 → F.holds files.new ≡ F.holds files.old }
-    ensures others { (held : Contents) → F.holds files.old ≡ Some held
-        → SparesOthers held (outputs_in (Some (request_of request.now))) (F.holds files.new) }
+    ensures left { (held : Contents) → F.holds files.old ≡ Some held
+        → MayLeave held (output_in held (Some (request_of request.now))) (F.holds files.new) }
     ensures reading { outputs_in (Some (request_of request.now)) ≡ [] → F.holds files.new ≡ F.holds files.old }
     ensures reading_writes { outputs_in (Some (request_of request.now)) ≡ [] → F.write_faults files.new ≡ F.write_faults files.old }
 {
@@ -111,11 +111,11 @@ pub fn run<F: Files, S: Sink>(alloc: Global, words: &[String], files: &mut F, ou
         → Leaves held (output_in held (request_in (map string_bytes words.now))) (F.holds files.new) }
     ensures synced { result ≡ 0 → AreSynced (F.is_pending files.new) (outputs_in (request_in (map string_bytes words.now))) }
 
-    // With another status but those of a write fault and of want of memory no file changes. No file but those that
-    // the words name for writing ever changes.
+    // With another status but those of a write fault and of want of memory no file changes. With these the file that the
+    // command writes holds what writing it may leave, and no other file ever changes.
     ensures same { result ≢ 0 → result ≢ 5 → result ≢ 6 → F.holds files.new ≡ F.holds files.old }
-    ensures others { (held : Contents) → F.holds files.old ≡ Some held
-        → SparesOthers held (outputs_in (request_in (map string_bytes words.now))) (F.holds files.new) }
+    ensures left { (held : Contents) → F.holds files.old ≡ Some held
+        → MayLeave held (output_in held (request_in (map string_bytes words.now))) (F.holds files.new) }
     ensures reading { outputs_in (request_in (map string_bytes words.now)) ≡ [] → F.holds files.new ≡ F.holds files.old }
     ensures reading_writes { outputs_in (request_in (map string_bytes words.now)) ≡ [] → F.write_faults files.new ≡ F.write_faults files.old }
 {
