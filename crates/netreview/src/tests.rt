@@ -1,6 +1,6 @@
 //! Rows through the program: words and files in, a status and a text out.
 
-ghost use Rattle.std.specs.Prelude.{None, false, ◌-◌, ◌^◌, ◌<◌};
+ghost use Rattle.std.specs.Prelude.{None, false, ◌-◌, ◌^◌};
 
 use crate::run::run;
 use nr_bytes::{Memory, put_bytes, put_u8, put_u16, put_u32, put_u64};
@@ -17,6 +17,10 @@ const SEED: [u8; 32] = [
 ];
 
 const ROOT: &str = "1a2ebdedd74930ef4334aafba6e1eec56331b88ee789406e92066fa27bcf177e";
+
+const UPPER_ROOT: &str = "1A2EBDEDD74930EF4334AAFBA6E1EEC56331B88EE789406E92066FA27BCF177E";
+
+const SHORT_ROOT: &str = "1a2ebdedd74930ef4334aafba6e1eec56331b88ee789406e92066fa27bcf177";
 
 const T0: &[u8; 26] = b"network 64500; commit 60;\n";
 
@@ -39,21 +43,17 @@ fn digest_of(alloc: Global, text: &str) -> Result<[u8; 32], Fail> {
     Ok(sized(bytes.as_slice()))
 }
 
-// Signs a body with a leaf of the tree of height 1.
+// Signs a body with leaf 1 of the seed's tree of height 1.
 fn put_signature(
     alloc: Global,
+    seed: &Seed,
     out: &mut Vec<u8>,
-    leaf: u32,
     body: &[u8],
-) -> Result<(), Memory>
-    requires { leaf < 2 }
-{
-    let seed = Seed(SEED);
-    let tree = Tree::build(alloc, &seed, 1)?;
-    tree.sign(&seed, leaf, body, out)
+) -> Result<(), Memory> {
+    let tree = Tree::build(alloc, seed, 1)?;
+    tree.sign(seed, 1, body, out)
 }
 
-// An authenticator that leaf 1 signs, and no head.
 fn put_auth(
     alloc: Global,
     out: &mut Vec<u8>,
@@ -67,7 +67,7 @@ fn put_auth(
     put_u64(&mut body, time)?;
     put_bytes(&mut body, hash)?;
     put_bytes(out, &body)?;
-    put_signature(alloc, out, 1, &body)
+    put_signature(alloc, &Seed(SEED), out, &body)
 }
 
 // The smallest answer: a PROMISE of T0 at time 0, a COMMIT to the auditor at time 1, and the head.
@@ -271,46 +271,48 @@ fn names_the_first_malformed_field_of_authenticators(rt: HostRuntime) -> Result<
     Ok(())
 }
 
+// Whether an audit of the smallest answer, changed at one byte, is refused by this line.
+fn refuses_change(alloc: Global, at: usize, value: u8, text: &str) -> Result<bool, Fail> {
+    let mut files = row_files(alloc)?;
+    files.put("a", changed(alloc, &smallest(alloc)?, at, value)?.as_slice())?;
+    let words = audit_words(alloc, "0", "0")?;
+    Ok(gives(alloc, words.as_slice(), &mut files, 7, text))
+}
+
 #[test]
 fn refuses_another_chain_and_an_unsigned_head(rt: HostRuntime) -> Result<(), Fail> {
     let alloc = rt.alloc();
-    let whole = smallest(alloc)?;
-    let words = audit_words(alloc, "0", "0")?;
-    let mut files = row_files(alloc)?;
     let head = format!(in alloc; "refused head {SECOND} {OTHER_SECOND}\n")?;
-    // The PROMISE's time; a byte of the head's secrets, of its path, and of its hash, which is signed
-    for (at, value, text) in [
-        (60, 1, head.as_str()),
-        (176, 0, "refused head unsigned\n"),
-        (16_591, 0, "refused head unsigned\n"),
-        (139, 0, "refused head unsigned\n"),
-    ] {
-        files.put("a", changed(alloc, &whole, at, value)?.as_slice())?;
+    assert!(rt; refuses_change(alloc, 60, 1, head.as_str())?);
+    // The head's hash, which is signed; a byte of its secrets and of its path
+    for at in [139, 176, 16_591] {
         assert!(rt;
-            gives(alloc, words.as_slice(), &mut files, 7, text),
+            refuses_change(alloc, at, 0, "refused head unsigned\n")?,
             "at {at}"
         );
     }
     Ok(())
 }
 
-#[test]
-fn prints_signed_conflicts_in_file_order(rt: HostRuntime) -> Result<(), Fail> {
-    let alloc = rt.alloc();
-    let mut files = row_files(alloc)?;
+// Three conflicts, an authenticator of entry 2 as it stands, and one whose first secret byte is changed.
+fn conflicting(alloc: Global) -> Result<Vec<u8>, Fail> {
     let mut auths = Vec::new(alloc);
     put_bytes(&mut auths, b"NRT1")?;
     put_auth(alloc, &mut auths, 5, 0, &[1; 32])?;
     put_auth(alloc, &mut auths, 1, 0, &[2; 32])?;
     put_auth(alloc, &mut auths, 5, 0, &[1; 32])?;
     put_auth(alloc, &mut auths, 2, 1, &digest_of(alloc, SECOND)?)?;
-    // One whose first secret byte is changed accuses nobody.
     let at = auths.len().saturating_add(57);
     put_auth(alloc, &mut auths, 6, 0, &[1; 32])?;
     let flipped = auths.get(at).copied().unwrap_or(0) ^ 1;
-    let auths = changed(alloc, &auths, at, flipped)?;
-    assert_eq!(rt; auths.len(), 4 + 5 * 16_473);
-    files.put("t", auths.as_slice())?;
+    changed(alloc, &auths, at, flipped)
+}
+
+#[test]
+fn prints_signed_conflicts_in_file_order(rt: HostRuntime) -> Result<(), Fail> {
+    let alloc = rt.alloc();
+    let mut files = row_files(alloc)?;
+    files.put("t", conflicting(alloc)?.as_slice())?;
     let ones = hex::encode(alloc, [1u8; 32].as_slice())?;
     let twos = hex::encode(alloc, [2u8; 32].as_slice())?;
     let text = format!(in alloc;
@@ -321,38 +323,61 @@ fn prints_signed_conflicts_in_file_order(rt: HostRuntime) -> Result<(), Fail> {
     Ok(())
 }
 
+// Whether an audit under this root of this file of authenticators gives this status and this text.
+fn audit_gives(
+    alloc: Global,
+    files: &mut MemFiles,
+    root: &str,
+    auths: &str,
+    status: u8,
+    text: &str,
+) -> Result<bool, AllocError> {
+    let words = words_of(
+        alloc,
+        &[
+            "audit", "--root", root, "--answer", "a", "--auths", auths, "--from", "0", "--to", "0",
+        ],
+    )?;
+    Ok(gives(alloc, words.as_slice(), files, status, text))
+}
+
 #[test]
 fn takes_a_root_of_64_digits(rt: HostRuntime) -> Result<(), Fail> {
     let alloc = rt.alloc();
     let mut files = row_files(alloc)?;
     for (root, status, text) in [
-        (
-            "1A2EBDEDD74930EF4334AAFBA6E1EEC56331B88EE789406E92066FA27BCF177E",
-            0,
-            "clean\n",
-        ),
+        (UPPER_ROOT, 0, "clean\n"),
         (SECOND, 7, "refused head unsigned\n"),
-        (ROOT.get(1..).unwrap_or(""), 2, "usage\n"),
-        (ROOT.get(2..).unwrap_or(""), 2, "usage\n"),
-        (
-            "1a2ebdedd74930ef4334aafba6e1eec56331b88ee789406e92066fa27bcf177g",
-            2,
-            "usage\n",
-        ),
+        (SHORT_ROOT, 2, "usage\n"),
+        ("", 2, "usage\n"),
     ] {
-        let words = words_of(
-            alloc,
-            &[
-                "audit", "--root", root, "--answer", "a", "--auths", "t", "--from", "0", "--to",
-                "0",
-            ],
-        )?;
         assert!(rt;
-            gives(alloc, words.as_slice(), &mut files, status, text),
+            audit_gives(alloc, &mut files, root, "t", status, text)?,
             "{root}"
         );
     }
+    assert!(rt; audit_gives(alloc, &mut files, ROOT, "u", 7, "refused nofile auths\n")?);
+    assert!(rt; audit_gives(alloc, &mut files, ROOT, "a", 2, "usage\n")?);
     Ok(())
+}
+
+// Whether a name holds these bytes.
+fn holds(files: &MemFiles, name: &str, bytes: &[u8]) -> bool {
+    match files.bytes(name) {
+        Some(found) => found == bytes,
+        None => false,
+    }
+}
+
+// Whether these words end with status 5, and offer nothing more, where the first call of the sink fails.
+fn fails_at_the_sink(
+    alloc: Global,
+    words: &[String],
+    files: &mut MemFiles,
+) -> Result<bool, Memory> {
+    let mut out = MemSink::new(alloc);
+    out.fail_call(1)?;
+    Ok(run(alloc, words, files, &mut out) == 5 && out.bytes().is_empty())
 }
 
 #[test]
@@ -363,32 +388,14 @@ fn each_call_of_an_audit_fails_in_turn(rt: HostRuntime) -> Result<(), Fail> {
         let mut files = row_files(alloc)?;
         files.fail_call(call)?;
         assert!(rt; gives(alloc, words.as_slice(), &mut files, 4, "read fault\n"));
-        assert_eq!(rt; files.bytes("t"), Some(b"NRT1".as_slice()));
+        assert!(rt; holds(&files, "t", b"NRT1"));
     }
     let mut files = row_files(alloc)?;
-    let mut out = MemSink::new(alloc);
-    out.fail_call(1)?;
-    assert_eq!(rt; run(alloc, words.as_slice(), &mut files, &mut out), 5);
-    assert!(rt; out.bytes().is_empty());
-    let absent = words_of(
-        alloc,
-        &[
-            "audit", "--root", ROOT, "--answer", "a", "--auths", "u", "--from", "0", "--to", "0",
-        ],
-    )?;
-    assert!(rt;
-        gives(
-            alloc,
-            absent.as_slice(),
-            &mut files,
-            7,
-            "refused nofile auths\n"
-        )
-    );
+    assert!(rt; fails_at_the_sink(alloc, words.as_slice(), &mut files)?);
     Ok(())
 }
 
-// The words for a key of a height, from the seed file `s` into the file `k`.
+// The words for a key, from the seed file `s` into the file `k`.
 fn keygen_words(alloc: Global, asn: &str, height: &str) -> Result<Vec<String>, AllocError> {
     words_of(
         alloc,
@@ -399,7 +406,7 @@ fn keygen_words(alloc: Global, asn: &str, height: &str) -> Result<Vec<String>, A
 }
 
 // A seed, and a key file of before.
-fn key_files(alloc: Global, seed: &[u8]) -> Result<MemFiles, Fail> {
+fn key_files(alloc: Global, seed: &[u8]) -> Result<MemFiles, Memory> {
     let mut files = MemFiles::new(alloc);
     files.put("s", seed)?;
     files.put("k", b"old")?;
@@ -420,27 +427,36 @@ fn keygen_writes_a_key_and_prints_its_root(rt: HostRuntime) -> Result<(), Fail> 
     let text = format!(in alloc; "root {ROOT}\n")?;
     let words = keygen_words(alloc, "64500", "1")?;
     assert!(rt; gives(alloc, words.as_slice(), &mut files, 0, text.as_str()));
-    assert_eq!(rt; files.bytes("k"), Some(key_file(alloc)?.as_slice()));
-    assert_eq!(rt; files.bytes("s"), Some(SEED.as_slice()));
-    let mut longer = Vec::from_slice(alloc, &SEED)?;
-    put_u8(&mut longer, 0)?;
-    for (seed, text) in [
-        (SEED.get(..31).unwrap_or(&[]), "malformed seed 0\n"),
-        (longer.as_slice(), "malformed seed 32\n"),
-        (&[], "malformed seed 0\n"),
+    assert!(rt; holds(&files, "k", key_file(alloc)?.as_slice()));
+    assert!(rt; holds(&files, "s", &SEED));
+    Ok(())
+}
+
+// Whether `keygen` with this seed file ends so, and leaves the key file of before.
+fn keygen_refuses(alloc: Global, seed: &[u8], status: u8, text: &str) -> Result<bool, Fail> {
+    let mut files = key_files(alloc, seed)?;
+    let words = keygen_words(alloc, "64500", "1")?;
+    Ok(gives(alloc, words.as_slice(), &mut files, status, text) && holds(&files, "k", b"old"))
+}
+
+#[test]
+fn keygen_takes_a_seed_of_32_bytes(rt: HostRuntime) -> Result<(), Fail> {
+    let alloc = rt.alloc();
+    let bytes = vec![in alloc; 7u8; 1_048_577]?;
+    for (len, status, text) in [
+        (0, 3, "malformed seed 0\n"),
+        (31, 3, "malformed seed 0\n"),
+        (33, 3, "malformed seed 32\n"),
+        (1_048_576, 3, "malformed seed 32\n"),
+        (1_048_577, 7, "refused limit seed 1048577 1048576\n"),
     ] {
-        let mut files = key_files(alloc, seed)?;
-        assert!(rt; gives(alloc, words.as_slice(), &mut files, 3, text));
-        assert_eq!(rt; files.bytes("k"), Some(b"old".as_slice()));
+        let seed = bytes.get(..len).unwrap_or(&[]);
+        assert!(rt; keygen_refuses(alloc, seed, status, text)?, "of {len}");
     }
-    let many = vec![in alloc; 0u8; 1_048_577]?;
-    let mut files = key_files(alloc, &many)?;
-    let limit = "refused limit seed 1048577 1048576\n";
-    assert!(rt; gives(alloc, words.as_slice(), &mut files, 7, limit));
-    assert_eq!(rt; files.calls(), 1);
+    let words = keygen_words(alloc, "64500", "1")?;
     let mut none = MemFiles::new(alloc);
     assert!(rt; gives(alloc, words.as_slice(), &mut none, 7, "refused nofile seed\n"));
-    assert_eq!(rt; none.bytes("k"), None);
+    assert_eq!(rt; none.calls(), 1);
     Ok(())
 }
 
@@ -448,63 +464,52 @@ fn keygen_writes_a_key_and_prints_its_root(rt: HostRuntime) -> Result<(), Fail> 
 fn keygen_takes_an_as_and_a_height(rt: HostRuntime) -> Result<(), Fail> {
     let alloc = rt.alloc();
     let mut files = key_files(alloc, b"short")?;
-    for (asn, height, status) in [
-        ("64500", "1", 3),
-        ("4294967295", "16", 3),
-        ("0", "01", 3),
-        ("4294967296", "1", 2),
-        ("64500", "0", 2),
-        ("64500", "17", 2),
-        ("64500", "272", 2),
-        ("64500", "", 2),
+    for (asn, height, status, text) in [
+        ("64500", "1", 3, "malformed seed 0\n"),
+        ("4294967295", "16", 3, "malformed seed 0\n"),
+        ("0", "01", 3, "malformed seed 0\n"),
+        ("4294967296", "1", 2, "usage\n"),
+        ("64500", "0", 2, "usage\n"),
+        ("64500", "17", 2, "usage\n"),
+        ("64500", "257", 2, "usage\n"),
     ] {
-        let text = if status == 2 { "usage\n" } else { "malformed seed 0\n" };
         let words = keygen_words(alloc, asn, height)?;
         assert!(rt;
             gives(alloc, words.as_slice(), &mut files, status, text),
             "{asn} {height}"
         );
     }
-    let same = words_of(
-        alloc,
-        &[
-            "keygen", "--as", "1", "--height", "1", "--seed", "k", "--key", "k",
-        ],
-    )?;
-    assert!(rt; gives(alloc, same.as_slice(), &mut files, 2, "usage\n"));
-    assert_eq!(rt; files.bytes("k"), Some(b"old".as_slice()));
     Ok(())
+}
+
+// Whether `keygen` ends so where a call on the files fails, and leaves this in the key file.
+fn keygen_fails(
+    alloc: Global,
+    call: u64,
+    status: u8,
+    text: &str,
+    left: &[u8],
+) -> Result<bool, Fail> {
+    let mut files = key_files(alloc, &SEED)?;
+    files.fail_call(call)?;
+    let words = keygen_words(alloc, "64500", "1")?;
+    Ok(gives(alloc, words.as_slice(), &mut files, status, text) && holds(&files, "k", left))
 }
 
 #[test]
 fn each_call_of_keygen_fails_in_turn(rt: HostRuntime) -> Result<(), Fail> {
     let alloc = rt.alloc();
-    let words = keygen_words(alloc, "64500", "1")?;
     let whole = key_file(alloc)?;
-    // Size, read, cut, write, sync; and what stands in the key file
-    for (call, status, text, left) in [
-        (1u64, 4, "read fault\n", b"old".as_slice()),
-        (2, 4, "read fault\n", b"old".as_slice()),
-        (3, 5, "write fault\n", b"old".as_slice()),
-        (4, 5, "write fault\n", b"".as_slice()),
-        (5, 5, "write fault\n", whole.as_slice()),
-    ] {
-        let mut files = key_files(alloc, &SEED)?;
-        files.fail_call(call)?;
-        assert!(rt;
-            gives(alloc, words.as_slice(), &mut files, status, text),
-            "call {call}"
-        );
-        assert_eq!(rt; files.bytes("k"), Some(left), "call {call}");
-        assert_eq!(rt; files.bytes("s"), Some(SEED.as_slice()), "call {call}");
-    }
+    // Size, read, cut, write and sync
+    assert!(rt; keygen_fails(alloc, 1, 4, "read fault\n", b"old")?);
+    assert!(rt; keygen_fails(alloc, 2, 4, "read fault\n", b"old")?);
+    assert!(rt; keygen_fails(alloc, 3, 5, "write fault\n", b"old")?);
+    assert!(rt; keygen_fails(alloc, 4, 5, "write fault\n", b"")?);
+    assert!(rt; keygen_fails(alloc, 5, 5, "write fault\n", &whole)?);
     let mut files = key_files(alloc, &SEED)?;
-    let mut out = MemSink::new(alloc);
-    out.fail_call(1)?;
-    assert_eq!(rt; run(alloc, words.as_slice(), &mut files, &mut out), 5);
-    assert!(rt; out.bytes().is_empty());
-    assert_eq!(rt; files.bytes("k"), Some(whole.as_slice()));
-    assert_eq!(rt; files.calls(), 5);
+    let words = keygen_words(alloc, "64500", "1")?;
+    assert!(rt; fails_at_the_sink(alloc, words.as_slice(), &mut files)?);
+    assert!(rt; holds(&files, "k", &whole));
     Ok(())
 }
 
