@@ -1,9 +1,12 @@
 #!/usr/bin/env python3
-"""Writes the files of this folder anew, from the formats alone: an answer, and authenticators of its network.
+"""Writes the files of this folder and of the program's stored run anew, from the formats alone, and prints roots.
 
 The network AS 64500 answers with a log of four entries. A neighbour holds two authenticators that the
 network signed: one of entry 3 as it stands in the answer, and one of another entry 3, with another message. The
 network kept two logs, and the second authenticator shows it.
+
+Everything is signed by keys of one seed that is no secret: the bytes 0 to 31. A real seed comes from the system's
+random source (docs/keys.md).
 """
 
 import os
@@ -11,12 +14,14 @@ import struct
 import sys
 
 HERE = os.path.dirname(os.path.abspath(__file__))
+DATA = os.path.join(HERE, "..", "crates", "netreview", "data")
 sys.path.insert(0, os.path.join(HERE, "..", "bench"))
 
 import keys
 import logs
 
 AS = 64500
+SEED = bytes(range(32))
 PROMISES = b"network 64500; commit 60;\n"
 SECOND = 1_000_000
 
@@ -37,19 +42,41 @@ def log_of(last_byte):
     return log
 
 
-def main():
-    tree = keys.Tree(bytes(range(32)), 2)
+def smallest_log():
+    """The smallest log that has an answer: a PROMISE and a COMMIT to the auditor, a microsecond apart."""
+    log = logs.Log(AS)
+    log.add(0, logs.PROMISE, logs.promise(PROMISES, 0, 60))
+    log.add(1, logs.COMMIT, logs.commit(logs.AUDITOR, 0))
+    return log
+
+
+def write(folder, name, data):
+    with open(os.path.join(folder, name), "wb") as file:
+        file.write(data)
+
+
+def write_example():
+    tree = keys.Tree(SEED, 2)
     shown, hidden = log_of(2), log_of(3)
-    answer = shown.answer(lambda body: tree.sign(0, body))
-    auths = logs.authenticators([
+    write(HERE, "answer", shown.answer(lambda body: tree.sign(0, body)))
+    write(HERE, "auths", logs.authenticators([
         shown.authenticator(3, lambda body: tree.sign(1, body)),
         hidden.authenticator(3, lambda body: tree.sign(2, body)),
-    ])
-    for name, data in (("answer", answer), ("auths", auths)):
-        with open(os.path.join(HERE, name), "wb") as file:
-            file.write(data)
-    print("conflict 3 %d %s" % (6 * SECOND, hidden.values[3].hex()))
+    ]))
+    write(HERE, "root", tree.root.hex().encode() + b"\n")
+    print("examples/root: root", tree.root.hex())
+    print("examples/audit: conflict 3 %d %s" % (6 * SECOND, hidden.values[3].hex()))
+
+
+def write_stored_run():
+    tree = keys.Tree(SEED, 1)
+    log = smallest_log()
+    write(DATA, "answer", log.answer(lambda body: tree.sign(1, body)))
+    write(DATA, "auths", logs.authenticators([]))
+    print("crates/netreview/args: root", tree.root.hex())
+    print("the value of entry 2:", log.values[2].hex())
 
 
 if __name__ == "__main__":
-    main()
+    write_example()
+    write_stored_run()

@@ -2,3 +2,5 @@ pub mod InputLemmas
 pub mod LinkLemmas
 pub mod WordLemmas
 pub mod ReportLemmas
+pub mod WritingLemmas
+pub mod KeyLemmas

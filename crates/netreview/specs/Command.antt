@@ -5,26 +5,29 @@ use Rattle.hex.specs.Hex.{encode_lower}
 use Rattle.nr_spec_wire.specs.Reading.{◌>>=◌}
 use Rattle.nr_spec_log.specs.Authenticator.{Authenticator, auths_of}
 use Rattle.nr_spec_log.specs.Answer.{AnswerFile, answer_of}
-use Rattle.nr_spec_history.specs.Conflicts.{Period}
-use Rattle.nr_spec_history.specs.Report.{Fact, Form, Head, Short, outcome, line, report_text}
+use Rattle.nr_spec_history.specs.KeyFiles.{Key, seed_of, key_file, key_root}
+use Rattle.nr_spec_history.specs.Report.{Fact, Form, Unsigned, Head, Short, outcome, line, report_text}
 use Rattle.nr_ports.specs.Ports.{Contents}
-use Rattle.netreview.specs.Words.{AuditRequest, Request, Audit, request_in}
+use Rattle.netreview.specs.Words.{AuditRequest, KeygenRequest, Request, Audit, Keygen, request_in}
 
 -- ---- input files
 
 pub data Input : Type 0 where
   AnswerInput : Input
   AuthsInput : Input
+  SeedInput : Input
 
 -- the word for it in the lines that the program prints
 abbrev pub input_name : Input → List ℕ
 input_name AnswerInput = codes "answer"
 input_name AuthsInput = codes "auths"
+input_name SeedInput = codes "seed"
 
 -- its greatest size in bytes
 abbrev pub input_limit : Input → ℕ
 input_limit AnswerInput = 2147483647
 input_limit AuthsInput = 1073741824
+input_limit SeedInput = 1048576
 
 -- ---- refusals
 
@@ -59,7 +62,14 @@ audit_of held q = do
   answer ← well_formed AnswerInput (answer_of answer_bytes)
   auths_bytes ← present AuthsInput (held q.auths)
   auths ← well_formed AuthsInput (auths_of auths_bytes)
-  judged (outcome answer q.period auths)
+  judged (outcome q.root answer q.period auths)
+
+-- the first refusal, or the key that is made
+unfoldable pub keygen_of : Contents → KeygenRequest → Result Key Refusal
+keygen_of held q = do
+  seed_bytes ← present SeedInput (held q.seed)
+  seed ← well_formed SeedInput (seed_of seed_bytes)
+  Ok (record { asn = q.asn; height = q.height; seed = seed })
 
 -- ---- endings
 
@@ -70,6 +80,7 @@ pub record Ending : Type 0 where
 
 abbrev pub fact_words : Fact → List (List ℕ)
 fact_words Form = codes "form" ∷ codes "answer" ∷ []
+fact_words Unsigned = codes "head" ∷ codes "unsigned" ∷ []
 fact_words (Head head chain) = codes "head" ∷ encode_lower head ∷ encode_lower chain ∷ []
 fact_words (Short head to) = codes "short" ∷ decimal head ∷ decimal to ∷ []
 
@@ -88,9 +99,16 @@ report_status (first ∷ others) = 1
 unfoldable pub report_ending : List Authenticator → Ending
 report_ending conflicts = record { status = report_status conflicts; text = report_text conflicts }
 
+unfoldable pub key_ending : Key → Ending
+key_ending key = record { status = 0; text = line (codes "root" ∷ encode_lower (key_root key) ∷ []) }
+
 -- the report where nothing refuses it
 abbrev pub concluded : Result (List Authenticator) Refusal → Result Ending Refusal
-concluded decided = decided >>= λ conflicts. Ok (report_ending conflicts)
+concluded found = found >>= λ conflicts. Ok (report_ending conflicts)
+
+-- the root where a key is made
+abbrev pub made : Result Key Refusal → Result Ending Refusal
+made found = found >>= λ key. Ok (key_ending key)
 
 abbrev pub ended : Result Ending Refusal → Ending
 ended (Ok ending) = ending
@@ -102,13 +120,40 @@ usage_ending = record { status = 2; text = line (codes "usage" ∷ []) }
 abbrev pub read_fault_ending : Ending
 read_fault_ending = record { status = 4; text = line (codes "read" ∷ codes "fault" ∷ []) }
 
+abbrev pub write_fault_ending : Ending
+write_fault_ending = record { status = 5; text = line (codes "write" ∷ codes "fault" ∷ []) }
+
 abbrev pub memory_ending : Ending
 memory_ending = record { status = 6; text = line (codes "memory" ∷ []) }
 
+-- what each command gives: its ending, or the first refusal
+abbrev pub decided : Contents → Request → Result Ending Refusal
+decided held (Audit q) = concluded (audit_of held q)
+decided held (Keygen q) = made (keygen_of held q)
+
 abbrev pub answered : Contents → Option Request → Ending
 answered held None = usage_ending
-answered held (Some (Audit q)) = ended (concluded (audit_of held q))
+answered held (Some request) = ended (decided held request)
 
 -- what the words and the files give
 abbrev pub run_of : Contents → List (List ℕ) → Ending
 run_of held words = answered held (request_in words)
+
+-- ---- files that are written
+
+pub record Output : Type 0 where
+  pub name : List ℕ
+  pub bytes : List ℕ
+
+abbrev pub key_output : List ℕ → Result Key Refusal → Option Output
+key_output name (Ok key) = Some (record { name = name; bytes = key_file key })
+key_output name (Err refusal) = None
+
+-- the file that each command writes
+abbrev pub output_of : Contents → Request → Option Output
+output_of held (Audit q) = None
+output_of held (Keygen q) = key_output q.key (keygen_of held q)
+
+abbrev pub output_in : Contents → Option Request → Option Output
+output_in held None = None
+output_in held (Some request) = output_of held request

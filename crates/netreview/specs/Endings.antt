@@ -4,6 +4,9 @@ use Rattle.std.specs.List.{flat_map}
 use Rattle.std.specs.String.{string_bytes}
 use Rattle.nr_spec_log.specs.Authenticator.{Authenticator}
 use Rattle.nr_spec_history.specs.Report.{conflict_line}
+use Rattle.nr_spec_history.specs.KeyFiles.{Key}
+use Rattle.nr_lamport.specs.declared.seed.Seed.{Seed}
+use Rattle.netreview.specs.declared.key_request.KeygenRequest.{KeygenRequest}
 use Rattle.netreview.specs.Command as command
 use Rattle.netreview.specs.declared.ending.Ending as declared_ending
 use Rattle.netreview.specs.declared.ending.Fixed as declared_fixed
@@ -13,6 +16,10 @@ ending_of e = record { status = e.status; text = string_bytes e.text }
 
 abbrev pub fixed_of : declared_fixed.Fixed → command.Ending
 fixed_of e = record { status = e.status; text = e.text.now }
+
+-- the key of a request with a seed
+abbrev pub key_of : KeygenRequest → Seed → Key
+key_of q seed = record { asn = q.asn; height = q.height; seed = seed.0 }
 
 -- the ending of the report whose conflicts have these lines
 abbrev pub Reports : List ℕ → command.Ending → Type 0

@@ -1,14 +1,15 @@
--- What a run may answer, and what the sink has of it.
-use Rattle.std.specs.Prelude.{◌≡◌, ℕ, ◌⊎◌, List, ◌++◌, Option, Some}
-use Rattle.nr_ports.specs.Ports.{Contents}
+-- What a run may answer, what the sink has of it, and what it leaves of the files.
+use Rattle.std.specs.Prelude.{◌≡◌, ℕ, Bool, false, ◌⊎◌, List, [], ◌∷◌, ◌++◌, length, Option, None, Some}
+use Rattle.nr_ports.specs.Ports.{Contents, ChangesOnly, Torn, TornCut, TornWrite}
 use Rattle.nr_ports.specs.Views.{TookSome}
-use Rattle.netreview.specs.Command.{Ending, read_fault_ending, memory_ending}
+use Rattle.netreview.specs.Command.{Ending, Output, read_fault_ending, write_fault_ending, memory_ending}
 
--- The ending is that of a read fault, where one was counted, or that of want of memory, or, where the files
--- tell what they hold, the one that is given by what they hold.
-abbrev pub MayEnd : Option Contents → Type 0 → (Contents → Ending) → Ending → Type 0
-MayEnd told counted given e =
-    ((e ≡ read_fault_ending) × counted) ⊎ ((e ≡ memory_ending) ⊎ ((held : Contents) → told ≡ Some held → e ≡ given held))
+-- The ending is that of a read fault or of a write fault, where one was counted, or that of want of memory, or, where
+-- the files tell what they hold, the one that is given by what they hold.
+abbrev pub MayEnd : Option Contents → Type 0 → Type 0 → (Contents → Ending) → Ending → Type 0
+MayEnd told read written given e =
+    ((e ≡ read_fault_ending) × read) ⊎ (((e ≡ write_fault_ending) × written)
+    ⊎ ((e ≡ memory_ending) ⊎ ((held : Contents) → told ≡ Some held → e ≡ given held)))
 
 -- the sink took the whole text behind what it had
 abbrev pub TookAll : Option (List ℕ) → Option (List ℕ) → List ℕ → Type 0
@@ -18,7 +19,31 @@ TookAll old new text = (before : List ℕ) → old ≡ Some before → new ≡ S
 abbrev pub TookFront : Option (List ℕ) → Option (List ℕ) → List ℕ → Type 0
 TookFront old new text = (before : List ℕ) → old ≡ Some before → TookSome before text new
 
--- The status is the ending's, and the sink took its whole text; or the sink failed, which is status 5, or
+-- The status is the ending's, and the sink took its whole text; or the sink failed, which was counted and is status 5, or
 -- found no memory, which is 6, and took some first bytes.
-abbrev pub Delivers : Option (List ℕ) → Option (List ℕ) → Ending → ℕ → Type 0
-Delivers old new e status = ((status ≡ e.status) × TookAll old new e.text) ⊎ (((status ≡ 5) ⊎ (status ≡ 6)) × TookFront old new e.text)
+abbrev pub Delivers : Option (List ℕ) → Option (List ℕ) → Type 0 → Ending → ℕ → Type 0
+Delivers old new failed e status =
+    ((status ≡ e.status) × TookAll old new e.text) ⊎ ((((status ≡ 5) × failed) ⊎ (status ≡ 6)) × TookFront old new e.text)
+
+-- ---- files
+
+-- The file that is written holds its bytes, and every other name what it held.
+abbrev pub Leaves : Contents → Option Output → Option Contents → Type 0
+Leaves held None new = new ≡ Some held
+Leaves held (Some output) new = ChangesOnly held output.name (λ file. file ≡ Some output.bytes) new
+
+-- What a cut to nothing, or a write of these bytes behind it, may leave: what was there, a part of it that was cut or
+-- overwritten, or a part of the bytes.
+abbrev pub IsLeft : List ℕ → Option (List ℕ) → Option (List ℕ) → Type 0
+IsLeft bytes old file = Torn (TornCut 0) old file ⊎ Torn (TornWrite 0 (length bytes)) (Some []) file
+
+-- Whatever stopped the command, the file that it writes holds what writing it may leave, and every other name what it
+-- held.
+abbrev pub MayLeave : Contents → Option Output → Option Contents → Type 0
+MayLeave held None new = new ≡ Some held
+MayLeave held (Some output) new = ChangesOnly held output.name (IsLeft output.bytes (held output.name)) new
+
+-- A crash leaves under each of these names what a read gives.
+abbrev pub AreSynced : (List ℕ → Bool) → List (List ℕ) → Type 0
+AreSynced is_pending [] = Unit {0}
+AreSynced is_pending (name ∷ names) = (is_pending name ≡ false) × AreSynced is_pending names

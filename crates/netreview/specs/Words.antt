@@ -1,7 +1,9 @@
 -- The words of the command line: which lists of words are taken, and what they ask for.
 use Rattle.std.specs.Prelude.{ℕ, Bool, true, false, ◌&&◌, nat_le, if◌then◌else◌, List, [], ◌∷◌, length, slice_get, Option, None, Some, codes}
+use Rattle.std.specs.Result.{result_ok}
 use Rattle.std.specs.Str.{bytes_eq, all_ascii_digits}
 use Rattle.std.specs.Str.Parse.{digits_value}
+use Rattle.hex.specs.Hex.{decode_sized}
 use Rattle.nr_spec_history.specs.Conflicts.{Period}
 use Rattle.nr_words.specs.Grammar.{Grammar, OptionRule, Values, values_in}
 
@@ -28,6 +30,16 @@ number_in word = if is_decimal word && nat_le (digits_value 10 word) most_number
 abbrev pub period_between : ℕ → ℕ → Option Period
 period_between from to = if nat_le from to then Some (record { from = from; to = to }) else None
 
+-- a number that isn't below the least nor above the most
+abbrev pub number_from : ℕ → ℕ → List ℕ → Option ℕ
+number_from least most word = number_in word >>= λ n. if nat_le least n && nat_le n most then Some n else None
+
+-- ---- roots
+
+-- the 32 bytes of 64 hexadecimal digits, of either case
+abbrev pub root_in : List ℕ → Option (List ℕ)
+root_in word = result_ok (decode_sized word 32)
+
 -- ---- commands
 
 -- the value of the option at a place of the grammar
@@ -38,16 +50,17 @@ value_at values at = slice_get values.options at >>= λ value. value
 abbrev pub required : List ℕ → OptionRule
 required name = record { name = name; required = true }
 
--- `audit --answer F --auths F --from N --to N`
+-- `audit --root HEX --answer F --auths F --from N --to N`
 abbrev pub audit_grammar : Grammar
 audit_grammar = record {
   command = codes "audit";
-  options = required (codes "answer") ∷ required (codes "auths") ∷ required (codes "from") ∷ required (codes "to") ∷ [];
+  options = required (codes "root") ∷ required (codes "answer") ∷ required (codes "auths") ∷ required (codes "from") ∷ required (codes "to") ∷ [];
   files = false;
 }
 
--- what `audit` is asked for: the names of two files, and a period
+-- what `audit` is asked for: the root of the audited network, the names of two files, and a period
 pub record AuditRequest : Type 0 where
+  pub root : List ℕ
   pub answer : List ℕ
   pub auths : List ℕ
   pub period : Period
@@ -55,22 +68,75 @@ pub record AuditRequest : Type 0 where
 -- Two equal file words aren't taken, nor is a period that runs back.
 unfoldable pub audit_in : Values → Option AuditRequest
 audit_in values = do
-  answer ← value_at values 0
-  auths ← value_at values 1
-  from_word ← value_at values 2
-  to_word ← value_at values 3
+  root_word ← value_at values 0
+  answer ← value_at values 1
+  auths ← value_at values 2
+  from_word ← value_at values 3
+  to_word ← value_at values 4
+  root ← root_in root_word
   from ← number_in from_word
   to ← number_in to_word
   period ← period_between from to
-  if bytes_eq answer auths then None else Some (record { answer = answer; auths = auths; period = period })
+  if bytes_eq answer auths then None else Some (record { root = root; answer = answer; auths = auths; period = period })
+
+-- `keygen --as N --height N --seed F --key F`
+abbrev pub keygen_grammar : Grammar
+keygen_grammar = record {
+  command = codes "keygen";
+  options = required (codes "as") ∷ required (codes "height") ∷ required (codes "seed") ∷ required (codes "key") ∷ [];
+  files = false;
+}
+
+-- what `keygen` is asked for: a key for this AS, whose tree has this height, and the names of two files
+pub record KeygenRequest : Type 0 where
+  pub asn : ℕ
+  pub height : ℕ
+  pub seed : List ℕ
+  pub key : List ℕ
+
+abbrev pub most_asn : ℕ
+most_asn = 4294967295
+
+abbrev pub most_height : ℕ
+most_height = 16
+
+-- Two equal file words aren't taken.
+unfoldable pub keygen_in : Values → Option KeygenRequest
+keygen_in values = do
+  asn_word ← value_at values 0
+  height_word ← value_at values 1
+  seed ← value_at values 2
+  key ← value_at values 3
+  asn ← number_from 0 most_asn asn_word
+  height ← number_from 1 most_height height_word
+  if bytes_eq seed key then None else Some (record { asn = asn; height = height; seed = seed; key = key })
+
+-- ---- the table of commands
 
 pub data Request : Type 0 where
   Audit : (audit : AuditRequest) → Request
+  Keygen : (keygen : KeygenRequest) → Request
 
 abbrev pub audit_request : List (List ℕ) → Option Request
 audit_request words = values_in audit_grammar words >>= λ values. audit_in values >>= λ audit. Some (Audit audit)
 
+abbrev pub keygen_request : List (List ℕ) → Option Request
+keygen_request words = values_in keygen_grammar words >>= λ values. keygen_in values >>= λ keygen. Some (Keygen keygen)
+
 -- what the words ask for, by the command word, which stands first
 unfoldable pub request_in : List (List ℕ) → Option Request
 request_in [] = None
-request_in (command ∷ words) = if bytes_eq command (codes "audit") then audit_request (command ∷ words) else None
+request_in (command ∷ words) =
+    if bytes_eq command (codes "audit") then audit_request (command ∷ words)
+    else if bytes_eq command (codes "keygen") then keygen_request (command ∷ words)
+    else None
+
+-- the files that a request may change
+abbrev pub outputs_of : Request → List (List ℕ)
+outputs_of (Audit q) = []
+outputs_of (Keygen q) = q.key ∷ []
+
+-- the files that the words allow to be changed
+abbrev pub outputs_in : Option Request → List (List ℕ)
+outputs_in None = []
+outputs_in (Some request) = outputs_of request

@@ -15,10 +15,10 @@ use crate::conflicts::conflict_lines;
 use crate::ending::Ending;
 use crate::input::Input;
 use crate::links::link_entries;
-use crate::numbers::Period;
 use crate::reading::{read_answer, read_auths, read_input};
 use crate::refusal::{Fact, Refusal, Stop};
 use crate::request::AuditRequest;
+use crate::signatures::is_auth_signed;
 use nr_answer::{Answer, Auths};
 use nr_ports::Files;
 use std::alloc::{AllocError, Global};
@@ -43,32 +43,36 @@ fn report(alloc: Global, lines: String) -> Result<Ending, AllocError>
 #[tactic(auto, unfolding(nr_spec_history::specs::Report::outcome))]
 fn judge(
     alloc: Global,
+    request: &AuditRequest<'_>,
     answer: &Answer<'_>,
     auths: &Auths<'_>,
-    period: &Period,
 ) -> Result<Ending, Stop>
-    ensures value { Decides ending_of result (concluded (judged (outcome answer.now (period_of period.now) auths.now))) }
+    ensures value { Decides ending_of result (concluded (judged (outcome request.now.root.0 answer.now (period_of request.now.period) auths.now))) }
     ensures status { IfOk result (λ e. e.status ≤ 1) }
     ensures reads { result ≢ Err Stop.ReadFault }
+    ensures writes { result ≢ Err Stop.WriteFault }
 {
     if answer.first() != 1 {
         return Err(Stop::Refused(Refusal::Refused(Fact::Form)));
     }
-    let links = link_entries(alloc, answer)?;
     let head = answer.head();
+    if !is_auth_signed(&request.root, &head) {
+        return Err(Stop::Refused(Refusal::Refused(Fact::Unsigned)));
+    }
+    let links = link_entries(alloc, answer)?;
     if head.hash.0.as_slice() != links.value.0.as_slice() {
         return Err(Stop::Refused(Refusal::Refused(Fact::Head {
             head: head.hash,
             chain: links.value,
         })));
     }
-    if head.time <= period.to {
+    if head.time <= request.period.to {
         return Err(Stop::Refused(Refusal::Refused(Fact::Short {
             head: head.time,
-            to: period.to,
+            to: request.period.to,
         })));
     }
-    let lines = conflict_lines(alloc, answer.asn(), answer.first(), period, &links, auths)?;
+    let lines = conflict_lines(alloc, request, answer, &links, auths)?;
     Ok(report(alloc, lines)?)
 }
 
@@ -84,10 +88,11 @@ pub fn audit<F: Files>(
     ensures same { F.holds files.new ≡ F.holds files.old }
     ensures cause { CountsReads (F.read_faults files.old) (F.read_faults files.new) result }
     ensures writes { F.write_faults files.new ≡ F.write_faults files.old }
+    ensures no_write { result ≢ Err Stop.WriteFault }
 {
     let answer_bytes = read_input(alloc, files, Input::Answer, request.answer)?;
     let answer = read_answer(&answer_bytes)?;
     let auths_bytes = read_input(alloc, files, Input::Auths, request.auths)?;
     let auths = read_auths(&auths_bytes)?;
-    judge(alloc, &answer, &auths, &request.period)
+    judge(alloc, request, &answer, &auths)
 }

@@ -1,7 +1,7 @@
 //! How the program ends: with a status and a text for the sink.
 
 ghost use Rattle.std.specs.Prelude.{◌≡◌, ◌⊎◌, IfOk};
-ghost use Rattle.netreview.specs.Command.{usage_ending, read_fault_ending, memory_ending, refusal_ending};
+ghost use Rattle.netreview.specs.Command.{usage_ending, read_fault_ending, write_fault_ending, memory_ending, refusal_ending};
 ghost use Rattle.netreview.specs.Views.{refusal_of};
 ghost use Rattle.netreview.specs.Endings.{fixed_of, ending_of};
 
@@ -43,6 +43,16 @@ pub fn read_fault() -> Fixed
     }
 }
 
+/// A write, cut or sync call failed.
+pub fn write_fault() -> Fixed
+    ensures { fixed_of result ≡ write_fault_ending }
+{
+    Fixed {
+        status: 5,
+        text: "write fault\n",
+    }
+}
+
 /// Memory ran out.
 pub fn out_of_memory() -> Fixed
     ensures { fixed_of result ≡ memory_ending }
@@ -60,6 +70,7 @@ fn fact_ending(alloc: Global, fact: Fact) -> Result<Ending, AllocError>
 {
     let text = match fact {
         Fact::Form => String::from_str(alloc, "refused form answer\n")?,
+        Fact::Unsigned => String::from_str(alloc, "refused head unsigned\n")?,
         Fact::Head { head, chain } => {
             let head = hex::encode(alloc, head.0.as_slice())?;
             let chain = hex::encode(alloc, chain.0.as_slice())?;

@@ -9,6 +9,7 @@ ghost use Rattle.netreview.specs.Views.{input_of};
 pub enum Input {
     Answer,
     Auths,
+    Seed,
 }
 
 /// The word for an input file in the lines that the program prints.
@@ -18,6 +19,7 @@ pub fn name_of(input: Input) -> &'static str
     match input {
         Input::Answer => "answer",
         Input::Auths => "auths",
+        Input::Seed => "seed",
     }
 }
 
@@ -28,5 +30,6 @@ pub fn limit_of(input: Input) -> u64
     match input {
         Input::Answer => 2_147_483_647,
         Input::Auths => 1_073_741_824,
+        Input::Seed => 1_048_576,
     }
 }

@@ -2,18 +2,24 @@
 #![tactic(auto)]
 
 mod audit;
+mod commands;
 mod conflicts;
 mod ending;
 mod input;
+mod key_request;
+mod keygen;
 mod links;
 mod numbers;
 mod reading;
 mod refusal;
 mod request;
+mod roots;
 mod run;
+mod signatures;
 mod system;
 #[cfg(test)]
 mod tests;
+mod writing;
 
 use run::run;
 use std::io::ErrorKind;

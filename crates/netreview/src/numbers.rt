@@ -1,9 +1,9 @@
 //! Numbers in the words of the command line.
 
-ghost use Rattle.std.specs.Prelude.{◌≡◌, IsTrue, option_map};
+ghost use Rattle.std.specs.Prelude.{◌≡◌, ◌≤◌, IsTrue, IfSome, option_map};
 ghost use Rattle.std.specs.Str.{all_ascii_digits};
 ghost use Rattle.std.specs.Str.Parse.{digits_value};
-ghost use Rattle.netreview.specs.Words.{is_decimal, number_in, period_between};
+ghost use Rattle.netreview.specs.Words.{is_decimal, number_in, number_from, period_between};
 ghost use Rattle.netreview.specs.Requests.{period_of};
 
 // The greatest number that a word may write.
@@ -57,6 +57,19 @@ pub fn number_of(word: &str) -> Option<u64>
         return None;
     }
     Some(value)
+}
+
+/// The number that a word writes, where it isn't below the least nor above the most.
+pub fn number_between(least: u64, most: u64, word: &str) -> Option<u64>
+    ensures value { result ≡ number_from least most word.now }
+    ensures least { IfSome result (λ n. least ≤ n) }
+    ensures most { IfSome result (λ n. n ≤ most) }
+{
+    let n = number_of(word)?;
+    if n < least || most < n {
+        return None;
+    }
+    Some(n)
 }
 
 /// The period from one number to another that isn't below it.

@@ -1,15 +1,20 @@
 //! Reading an input file in whole.
 
-ghost use Rattle.std.specs.Prelude.{◌≡◌, Some};
+ghost use Rattle.std.specs.Prelude.{◌≡◌, ◌≢◌, Some};
+ghost use Rattle.nr_spec_wire.specs.Reading.{Answers};
 ghost use Rattle.nr_spec_log.specs.Answer.{answer_of};
 ghost use Rattle.nr_spec_log.specs.Authenticator.{auths_of};
+ghost use Rattle.nr_spec_history.specs.KeyFiles.{seed_of};
+ghost use Rattle.nr_bytes.specs.Views.{offset_of};
 ghost use Rattle.nr_ports.specs.Ports.{Contents};
-ghost use Rattle.netreview.specs.Command.{present, well_formed, AnswerInput, AuthsInput};
-ghost use Rattle.netreview.specs.Views.{input_of, Decides, Settles, CountsReads};
+ghost use Rattle.netreview.specs.Command.{present, well_formed, AnswerInput, AuthsInput, SeedInput};
+ghost use Rattle.netreview.specs.Views.{input_of, seed_bytes, Decides, Settles, CountsReads};
 
 use crate::input::{Input, limit_of};
 use crate::refusal::{Refusal, Stop};
 use nr_answer::{Answer, Auths};
+use nr_bytes::{Cursor, Place};
+use nr_lamport::Seed;
 use nr_ports::{Files, read_whole};
 use std::alloc::Global;
 
@@ -24,6 +29,7 @@ pub fn read_input<F: Files>(
     ensures same { F.holds files.new ≡ F.holds files.old }
     ensures cause { CountsReads (F.read_faults files.old) (F.read_faults files.new) result }
     ensures writes { F.write_faults files.new ≡ F.write_faults files.old }
+    ensures no_write { result ≢ Err Stop.WriteFault }
 {
     let Some(found) = files.size(name)? else {
         return Err(Stop::Refused(Refusal::NoFile(input)));
@@ -51,5 +57,30 @@ pub fn read_auths<'a>(bytes: &'a [u8]) -> Result<Auths<'a>, Refusal>
     match Auths::read(bytes) {
         Ok(auths) => Ok(auths),
         Err(place) => Err(Refusal::Malformed(Input::Auths, place)),
+    }
+}
+
+// The 32 bytes of a file that has no others.
+#[tactic(auto, unfolding(nr_spec_history::specs::KeyFiles::seed_of))]
+fn seed_from(bytes: &[u8]) -> Result<Seed, Place>
+    ensures { Answers seed_bytes offset_of result (seed_of bytes.now) }
+{
+    let mut cursor = Cursor::new(bytes);
+    let found = cursor.take(32)?;
+    if 0 < cursor.left() {
+        return Err(Place(cursor.at()));
+    }
+    let mut seed = [0u8; 32];
+    seed.copy_from_slice(found);
+    Ok(Seed(seed))
+}
+
+/// The seed that a seed file is.
+pub fn read_seed(bytes: &[u8]) -> Result<Seed, Refusal>
+    ensures { Settles seed_bytes result (well_formed SeedInput (seed_of bytes.now)) }
+{
+    match seed_from(bytes) {
+        Ok(seed) => Ok(seed),
+        Err(place) => Err(Refusal::Malformed(Input::Seed, place)),
     }
 }

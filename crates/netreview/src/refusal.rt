@@ -2,12 +2,12 @@
 
 ghost use Rattle.std.specs.Prelude.{◌≡◌};
 ghost use Rattle.netreview.specs.declared.refusal.Stop.TheVariants as stop;
-ghost use Rattle.netreview.specs.Views.{stop_of};
+ghost use Rattle.netreview.specs.Views.{stop_of, halt_of};
 
 use crate::input::Input;
 use nr_bytes::{Memory, Place};
 use nr_chain::Digest;
-use nr_ports::{Failed, ReadFault};
+use nr_ports::{Failed, ReadFault, WriteFault};
 use std::alloc::{AllocError, AllocFailed};
 
 /// What an answer is refused for, with the values that show it.
@@ -15,6 +15,8 @@ use std::alloc::{AllocError, AllocFailed};
 pub enum Fact {
     /// It doesn't start with entry 1.
     Form,
+    /// Its head isn't signed under the audited root.
+    Unsigned,
     /// Its head has another hash than the chain's last value.
     Head { head: Digest, chain: Digest },
     /// Its head's time, in microseconds, isn't above the period's end.
@@ -39,6 +41,7 @@ pub enum Refusal {
 pub enum Stop {
     Refused(Refusal),
     ReadFault,
+    WriteFault,
     Memory,
 }
 
@@ -65,6 +68,17 @@ impl From<ReadFault> for Stop {
         match fault {
             ReadFault::Failed => Stop::ReadFault,
             ReadFault::Memory => Stop::Memory,
+        }
+    }
+}
+
+impl From<WriteFault> for Stop {
+    ghost from_gives = { λ fault e. e ≡ halt_of fault };
+
+    fn from(fault: WriteFault) -> Stop {
+        match fault {
+            WriteFault::Failed => Stop::WriteFault,
+            WriteFault::Memory => Stop::Memory,
         }
     }
 }

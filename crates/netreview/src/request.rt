@@ -3,17 +3,24 @@
 ghost use Rattle.std.specs.Prelude.{◌≡◌, map, option_map, IfOk};
 ghost use Rattle.std.specs.String.{string_bytes};
 ghost use Rattle.nr_words.specs.Views.{given_by};
-ghost use Rattle.netreview.specs.Words.{audit_in, audit_request, request_in, value_at};
-ghost use Rattle.netreview.specs.Requests.{audit_request_of, request_of};
+ghost use Rattle.netreview.specs.Words.{audit_in, audit_request, keygen_in, keygen_request, request_in, value_at};
+ghost use Rattle.netreview.specs.Requests.{audit_request_of, keygen_request_of, request_of};
 
-use crate::numbers::{Period, number_of, period_from};
+use crate::key_request::KeygenRequest;
+use crate::numbers::{Period, number_between, number_of, period_from};
+use crate::roots::root_of;
 use nr_bytes::Memory;
+use nr_chain::Digest;
 use nr_words::{Grammar, OptionRule, Values, values_of};
 use std::alloc::Global;
 
 const AUDIT: Grammar = Grammar {
     command: "audit",
     options: &[
+        OptionRule {
+            name: "root",
+            required: true,
+        },
         OptionRule {
             name: "answer",
             required: true,
@@ -34,9 +41,37 @@ const AUDIT: Grammar = Grammar {
     files: false,
 };
 
-/// What `audit` is asked for: the names of two files, and a period.
+const KEYGEN: Grammar = Grammar {
+    command: "keygen",
+    options: &[
+        OptionRule {
+            name: "as",
+            required: true,
+        },
+        OptionRule {
+            name: "height",
+            required: true,
+        },
+        OptionRule {
+            name: "seed",
+            required: true,
+        },
+        OptionRule {
+            name: "key",
+            required: true,
+        },
+    ],
+    files: false,
+};
+
+const MOST_ASN: u64 = 4_294_967_295;
+
+const MOST_HEIGHT: u64 = 16;
+
+/// What `audit` is asked for: the root of the audited network, the names of two files, and a period.
 #[derive(Clone, Copy, Debug)]
 pub struct AuditRequest<'a> {
+    pub root: Digest,
     pub answer: &'a str,
     pub auths: &'a str,
     pub period: Period,
@@ -46,6 +81,7 @@ pub struct AuditRequest<'a> {
 #[derive(Clone, Copy, Debug)]
 pub enum Request<'a> {
     Audit(AuditRequest<'a>),
+    Keygen(KeygenRequest<'a>),
 }
 
 // The value of the option at a place of the grammar.
@@ -62,10 +98,12 @@ fn value_of<'a>(values: &Values<'a>, at: usize) -> Option<&'a str>
 fn audit_from<'a>(values: &Values<'a>) -> Option<AuditRequest<'a>>
     ensures { option_map audit_request_of result ≡ audit_in (given_by values.now) }
 {
-    let answer = value_of(values, 0)?;
-    let auths = value_of(values, 1)?;
-    let from_word = value_of(values, 2)?;
-    let to_word = value_of(values, 3)?;
+    let root_word = value_of(values, 0)?;
+    let answer = value_of(values, 1)?;
+    let auths = value_of(values, 2)?;
+    let from_word = value_of(values, 3)?;
+    let to_word = value_of(values, 4)?;
+    let root = root_of(root_word)?;
     let from = number_of(from_word)?;
     let to = number_of(to_word)?;
     let period = period_from(from, to)?;
@@ -73,6 +111,7 @@ fn audit_from<'a>(values: &Values<'a>) -> Option<AuditRequest<'a>>
         return None;
     }
     Some(AuditRequest {
+        root,
         answer,
         auths,
         period,
@@ -91,6 +130,39 @@ fn audit_words<'a>(alloc: Global, words: &'a [String]) -> Result<Option<Request<
     }
 }
 
+#[tactic(auto, unfolding(crate::specs::Words::keygen_in))]
+fn keygen_from<'a>(values: &Values<'a>) -> Option<KeygenRequest<'a>>
+    ensures { option_map keygen_request_of result ≡ keygen_in (given_by values.now) }
+{
+    let asn_word = value_of(values, 0)?;
+    let height_word = value_of(values, 1)?;
+    let seed = value_of(values, 2)?;
+    let key = value_of(values, 3)?;
+    let asn = number_between(0, MOST_ASN, asn_word)?;
+    let height = number_between(1, MOST_HEIGHT, height_word)?;
+    if seed == key {
+        return None;
+    }
+    Some(KeygenRequest {
+        asn: asn as u32,
+        height: height as u8,
+        seed,
+        key,
+    })
+}
+
+fn keygen_words<'a>(alloc: Global, words: &'a [String]) -> Result<Option<Request<'a>>, Memory>
+    ensures { IfOk result (λ request. option_map request_of request ≡ keygen_request (map string_bytes words.now)) }
+{
+    let Some(values) = values_of(alloc, &KEYGEN, words)? else {
+        return Ok(None);
+    };
+    match keygen_from(&values) {
+        None => Ok(None),
+        Some(keygen) => Ok(Some(Request::Keygen(keygen))),
+    }
+}
+
 /// What the words ask for. `None` exactly where they aren't taken.
 #[tactic(auto, unfolding(crate::specs::Words::request_in))]
 pub fn request_from<'a>(alloc: Global, words: &'a [String]) -> Result<Option<Request<'a>>, Memory>
@@ -101,6 +173,9 @@ pub fn request_from<'a>(alloc: Global, words: &'a [String]) -> Result<Option<Req
     };
     if command.as_str() == "audit" {
         return audit_words(alloc, words);
+    }
+    if command.as_str() == "keygen" {
+        return keygen_words(alloc, words);
     }
     Ok(None)
 }

@@ -1,25 +1,25 @@
 //! The top call: words in, a status out, and one text at the sink.
 
-ghost use Rattle.std.specs.Prelude.{◌≡◌, ◌≢◌, ◌≤◌, ◌⊎◌, map, None};
+ghost use Rattle.std.specs.Prelude.{◌≡◌, ◌≢◌, ◌≤◌, ◌⊎◌, [], map, None, Some};
 ghost use Rattle.std.specs.String.{string_bytes};
-ghost use Rattle.nr_ports.specs.Ports.{Rose};
-ghost use Rattle.netreview.specs.Words.{request_in};
-ghost use Rattle.netreview.specs.Command.{Ending, audit_of, concluded, ended, run_of};
-ghost use Rattle.netreview.specs.Requests.{audit_request_of};
+ghost use Rattle.nr_ports.specs.Ports.{Contents, Rose};
+ghost use Rattle.netreview.specs.Words.{request_in, outputs_in};
+ghost use Rattle.netreview.specs.Command.{Ending, answered, output_in, run_of};
+ghost use Rattle.netreview.specs.Requests.{request_of};
 ghost use Rattle.netreview.specs.Endings.{fixed_of};
-ghost use Rattle.netreview.specs.Running.{MayEnd, Delivers};
+ghost use Rattle.netreview.specs.Running.{MayEnd, Delivers, Leaves, MayLeave, AreSynced};
 
-use crate::audit::audit;
-use crate::ending::{Fixed, out_of_memory, read_fault, refused, usage};
+use crate::commands::perform;
+use crate::ending::{Fixed, out_of_memory, read_fault, refused, usage, write_fault};
 use crate::refusal::Stop;
-use crate::request::{AuditRequest, Request, request_from};
+use crate::request::{Request, request_from};
 use nr_bytes::Memory;
 use nr_ports::{Files, Sink, WriteFault, write_all};
 use std::alloc::Global;
 
 // Offers a text to the sink, and answers the status: 5 where the sink failed, 6 where it found no memory.
 fn deliver<S: Sink>(out: &mut S, status: u8, text: &str) -> u8
-    ensures delivers { Delivers (S.taken out.old) (S.taken out.new) (record { status = status; text = text.now }) result }
+    ensures delivers { Delivers (S.taken out.old) (S.taken out.new) (Rose (S.faults out.old) (S.faults out.new)) (record { status = status; text = text.now }) result }
     ensures fault { result ≡ 5 → status ≢ 5 → Rose (S.faults out.old) (S.faults out.new) }
     ensures same { result ≢ 5 → S.faults out.new ≡ S.faults out.old }
     ensures status { (result ≡ status) ⊎ ((result ≡ 5) ⊎ (result ≡ 6)) }
@@ -32,7 +32,7 @@ fn deliver<S: Sink>(out: &mut S, status: u8, text: &str) -> u8
 }
 
 fn deliver_fixed<S: Sink>(out: &mut S, ending: Fixed) -> u8
-    ensures delivers { Delivers (S.taken out.old) (S.taken out.new) (fixed_of ending) result }
+    ensures delivers { Delivers (S.taken out.old) (S.taken out.new) (Rose (S.faults out.old) (S.faults out.new)) (fixed_of ending) result }
     ensures fault { result ≡ 5 → ending.status ≢ 5 → Rose (S.faults out.old) (S.faults out.new) }
     ensures same { result ≢ 5 → S.faults out.new ≡ S.faults out.old }
     ensures status { (result ≡ ending.status) ⊎ ((result ≡ 5) ⊎ (result ≡ 6)) }
@@ -40,28 +40,37 @@ fn deliver_fixed<S: Sink>(out: &mut S, ending: Fixed) -> u8
     deliver(out, ending.status, ending.text)
 }
 
-// Offers what an audit gives.
-fn run_audit<F: Files, S: Sink>(
+// Does what is asked for, and offers its ending.
+fn run_request<F: Files, S: Sink>(
     alloc: Global,
-    request: &AuditRequest<'_>,
+    request: &Request<'_>,
     files: &mut F,
     out: &mut S,
 ) -> u8
-    ensures ends { (e : Ending) × MayEnd (F.holds files.old) (Rose (F.read_faults files.old) (F.read_faults files.new))
-        (λ held. ended (concluded (audit_of held (audit_request_of request.now)))) e
-        × Delivers (S.taken out.old) (S.taken out.new) e result }
+    ensures ends { (e : Ending) × MayEnd (F.holds files.old) (Rose (F.read_faults files.old) (F.read_faults files.new)) (Rose (F.write_faults files.old) (F.write_faults files.new))
+        (λ held. answered held (Some (request_of request.now))) e
+        × Delivers (S.taken out.old) (S.taken out.new) (Rose (S.faults out.old) (S.faults out.new)) e result }
     ensures no_usage { result ≢ 2 }
     ensures known { result ≤ 7 }
     ensures read_fault { result ≡ 4 → Rose (F.read_faults files.old) (F.read_faults files.new) }
-    ensures write_fault { result ≡ 5 → Rose (S.faults out.old) (S.faults out.new) }
-    ensures sink { result ≢ 5 → S.faults out.new ≡ S.faults out.old }
-    ensures no_fault { result ≢ 4 → result ≢ 5 → result ≢ 6 → F.read_faults files.new ≡ F.read_faults files.old }
-    ensures same { F.holds files.new ≡ F.holds files.old }
-    ensures writes { F.write_faults files.new ≡ F.write_faults files.old }
+    ensures write_fault { result ≡ 5 → Rose (F.write_faults files.old) (F.write_faults files.new) ⊎ Rose (S.faults out.old) (S.faults out.new) }
+    ensures sink_fault { outputs_in (Some (request_of request.now)) ≡ [] → result ≡ 5 → Rose (S.faults out.old) (S.faults out.new) }
+    ensures no_read { result ≢ 4 → result ≢ 5 → result ≢ 6 → F.read_faults files.new ≡ F.read_faults files.old }
+    ensures no_write { result ≢ 5 → result ≢ 6 → F.write_faults files.new ≡ F.write_faults files.old }
+    ensures no_sink { result ≢ 5 → S.faults out.new ≡ S.faults out.old }
+    ensures written { result ≡ 0 → (held : Contents) → F.holds files.old ≡ Some held
+        → Leaves held (output_in held (Some (request_of request.now))) (F.holds files.new) }
+    ensures synced { result ≡ 0 → AreSynced (F.is_pending files.new) (outputs_in (Some (request_of request.now))) }
+    ensures same { result ≢ 0 → result ≢ 5 → result ≢ 6 → F.holds files.new ≡ F.holds files.old }
+    ensures left { (held : Contents) → F.holds files.old ≡ Some held
+        → MayLeave held (output_in held (Some (request_of request.now))) (F.holds files.new) }
+    ensures reading { outputs_in (Some (request_of request.now)) ≡ [] → F.holds files.new ≡ F.holds files.old }
+    ensures reading_writes { outputs_in (Some (request_of request.now)) ≡ [] → F.write_faults files.new ≡ F.write_faults files.old }
 {
-    match audit(alloc, files, request) {
+    match perform(alloc, files, request) {
         Ok(ending) => deliver(out, ending.status, ending.text.as_str()),
         Err(Stop::ReadFault) => deliver_fixed(out, read_fault()),
+        Err(Stop::WriteFault) => deliver_fixed(out, write_fault()),
         Err(Stop::Memory) => deliver_fixed(out, out_of_memory()),
         Err(Stop::Refused(refusal)) => match refused(alloc, refusal) {
             Ok(ending) => deliver(out, ending.status, ending.text.as_str()),
@@ -70,15 +79,15 @@ fn run_audit<F: Files, S: Sink>(
     }
 }
 
-/// Runs the command that the words after the program's name ask for, and answers the status. Signatures
-/// aren't checked yet, and no promise file is read: an authenticator accuses by what it states alone.
+/// Runs the command that the words after the program's name ask for, and answers the status. No promise file
+/// is read yet: an authenticator that the audited network signed accuses by what it states alone.
 pub fn run<F: Files, S: Sink>(alloc: Global, words: &[String], files: &mut F, out: &mut S) -> u8
     // One ending is offered: the one that the words and the files give, where these tell what they hold,
-    // or that of a read fault, or that of want of memory. The sink has it whole, unless it failed or found no
+    // or that of a fault of the files, or that of want of memory. The sink has it whole, unless it failed or found no
     // memory.
-    ensures ends { (e : Ending) × MayEnd (F.holds files.old) (Rose (F.read_faults files.old) (F.read_faults files.new))
+    ensures ends { (e : Ending) × MayEnd (F.holds files.old) (Rose (F.read_faults files.old) (F.read_faults files.new)) (Rose (F.write_faults files.old) (F.write_faults files.new))
         (λ held. run_of held (map string_bytes words.now)) e
-        × Delivers (S.taken out.old) (S.taken out.new) e result }
+        × Delivers (S.taken out.old) (S.taken out.new) (Rose (S.faults out.old) (S.faults out.new)) e result }
 
     // The words alone decide on usage.
     ensures usage { result ≡ 2 → request_in (map string_bytes words.now) ≡ None }
@@ -87,21 +96,32 @@ pub fn run<F: Files, S: Sink>(alloc: Global, words: &[String], files: &mut F, ou
     // No other status is answered.
     ensures known { result ≤ 7 }
 
-    // Each fault has its cause.
+    // Each fault has its cause. A command that writes no file has only the sink for status 5.
     ensures read_fault { result ≡ 4 → Rose (F.read_faults files.old) (F.read_faults files.new) }
-    ensures write_fault { result ≡ 5 → Rose (S.faults out.old) (S.faults out.new) }
-    ensures sink { result ≢ 5 → S.faults out.new ≡ S.faults out.old }
+    ensures write_fault { result ≡ 5 → Rose (F.write_faults files.old) (F.write_faults files.new) ⊎ Rose (S.faults out.old) (S.faults out.new) }
+    ensures sink_fault { outputs_in (request_in (map string_bytes words.now)) ≡ [] → result ≡ 5 → Rose (S.faults out.old) (S.faults out.new) }
 
     // A fault is never passed over: every other status comes only where no count rose.
-    ensures no_fault { result ≢ 4 → result ≢ 5 → result ≢ 6 → F.read_faults files.new ≡ F.read_faults files.old }
+    ensures no_read { result ≢ 4 → result ≢ 5 → result ≢ 6 → F.read_faults files.new ≡ F.read_faults files.old }
+    ensures no_write { result ≢ 5 → result ≢ 6 → F.write_faults files.new ≡ F.write_faults files.old }
+    ensures no_sink { result ≢ 5 → S.faults out.new ≡ S.faults out.old }
 
-    // No file changes.
-    ensures same { F.holds files.new ≡ F.holds files.old }
-    ensures writes { F.write_faults files.new ≡ F.write_faults files.old }
+    // With status 0 the file that the command writes holds its bytes, and is synced.
+    ensures written { result ≡ 0 → (held : Contents) → F.holds files.old ≡ Some held
+        → Leaves held (output_in held (request_in (map string_bytes words.now))) (F.holds files.new) }
+    ensures synced { result ≡ 0 → AreSynced (F.is_pending files.new) (outputs_in (request_in (map string_bytes words.now))) }
+
+    // With another status but those of a write fault and of want of memory no file changes. With these the file that the
+    // command writes holds what writing it may leave, and no other file ever changes.
+    ensures same { result ≢ 0 → result ≢ 5 → result ≢ 6 → F.holds files.new ≡ F.holds files.old }
+    ensures left { (held : Contents) → F.holds files.old ≡ Some held
+        → MayLeave held (output_in held (request_in (map string_bytes words.now))) (F.holds files.new) }
+    ensures reading { outputs_in (request_in (map string_bytes words.now)) ≡ [] → F.holds files.new ≡ F.holds files.old }
+    ensures reading_writes { outputs_in (request_in (map string_bytes words.now)) ≡ [] → F.write_faults files.new ≡ F.write_faults files.old }
 {
     match request_from(alloc, words) {
         Err(Memory) => deliver_fixed(out, out_of_memory()),
         Ok(None) => deliver_fixed(out, usage()),
-        Ok(Some(Request::Audit(request))) => run_audit(alloc, &request, files, out),
+        Ok(Some(request)) => run_request(alloc, &request, files, out),
     }
 }

@@ -1,6 +1,7 @@
-//! The system's files and standard output. They tell no content: their contracts are about faults alone.
+//! The system's files and standard output. They tell neither their content nor what a crash would leave: their
+//! contracts are about faults alone.
 
-ghost use Rattle.std.specs.Prelude.{◌≡◌, ◌≤◌, length, IfOk, None};
+ghost use Rattle.std.specs.Prelude.{◌≡◌, ◌≤◌, false, length, IfOk, None};
 
 use nr_ports::{Failed, Files, Sink, WriteFault};
 use std::alloc::Global;
@@ -165,6 +166,8 @@ impl<'a, R: Disk> Files for SystemFiles<'a, R> {
     ghost read_faults = { λ s. s.read_faults };
 
     ghost write_faults = { λ s. s.write_faults };
+
+    ghost is_pending = { λ _ _. false };
 
     fn size(&mut self, name: &str) -> Result<Option<u64>, Failed> {
         match self.counted(name) {

@@ -1,12 +1,26 @@
 //! Rows through the program: words and files in, a status and a text out.
 
-ghost use Rattle.std.specs.Prelude.{None, ◌-◌, ◌^◌};
+ghost use Rattle.std.specs.Prelude.{None, false, ◌-◌, ◌^◌};
 
 use crate::run::run;
 use nr_bytes::{Memory, put_bytes, put_u8, put_u16, put_u32, put_u64};
+use nr_lamport::Seed;
+use nr_merkle::Tree;
 use nr_ports::{Failed, Files, MemFiles, MemSink, Sink, WriteFault};
 use std::alloc::{AllocError, Global};
 use std::test::Fail;
+
+// The seed of the network's key, and the root of its tree of height 1, which `bench/keys.py` computes by itself.
+const SEED: [u8; 32] = [
+    0, 1, 2, 3, 4, 5, 6, 7, 8, 9, 10, 11, 12, 13, 14, 15, 16, 17, 18, 19, 20, 21, 22, 23, 24, 25,
+    26, 27, 28, 29, 30, 31,
+];
+
+const ROOT: &str = "1a2ebdedd74930ef4334aafba6e1eec56331b88ee789406e92066fa27bcf177e";
+
+const UPPER_ROOT: &str = "1A2EBDEDD74930EF4334AAFBA6E1EEC56331B88EE789406E92066FA27BCF177E";
+
+const SHORT_ROOT: &str = "1a2ebdedd74930ef4334aafba6e1eec56331b88ee789406e92066fa27bcf177";
 
 const T0: &[u8; 26] = b"network 64500; commit 60;\n";
 
@@ -29,22 +43,31 @@ fn digest_of(alloc: Global, text: &str) -> Result<[u8; 32], Fail> {
     Ok(sized(bytes.as_slice()))
 }
 
-// A signature of the right sizes.
-fn put_signature(out: &mut Vec<u8>) -> Result<(), Memory> {
-    put_u32(out, 0)?;
-    put_u8(out, 1)?;
-    for _ in 0..512 {
-        put_bytes(out, &[7; 32])?;
-    }
-    put_bytes(out, &[9; 32])
+// Signs a body with leaf 1 of the seed's tree of height 1.
+fn put_signature(
+    alloc: Global,
+    seed: &Seed,
+    out: &mut Vec<u8>,
+    body: &[u8],
+) -> Result<(), Memory> {
+    let tree = Tree::build(alloc, seed, 1)?;
+    tree.sign(seed, 1, body, out)
 }
 
-fn put_auth(out: &mut Vec<u8>, seq: u64, time: u64, hash: &[u8; 32]) -> Result<(), Memory> {
-    put_u32(out, 64500)?;
-    put_u64(out, seq)?;
-    put_u64(out, time)?;
-    put_bytes(out, hash)?;
-    put_signature(out)
+fn put_auth(
+    alloc: Global,
+    out: &mut Vec<u8>,
+    seq: u64,
+    time: u64,
+    hash: &[u8; 32],
+) -> Result<(), Memory> {
+    let mut body = Vec::new(alloc);
+    put_u32(&mut body, 64500)?;
+    put_u64(&mut body, seq)?;
+    put_u64(&mut body, time)?;
+    put_bytes(&mut body, hash)?;
+    put_bytes(out, &body)?;
+    put_signature(alloc, &Seed(SEED), out, &body)
 }
 
 // The smallest answer: a PROMISE of T0 at time 0, a COMMIT to the auditor at time 1, and the head.
@@ -67,7 +90,7 @@ fn smallest(alloc: Global) -> Result<Vec<u8>, Fail> {
     put_u16(&mut out, 6)?;
     put_u16(&mut out, 65535)?;
     put_u32(&mut out, 0)?;
-    put_auth(&mut out, 2, 1, &digest_of(alloc, SECOND)?)?;
+    put_auth(alloc, &mut out, 2, 1, &digest_of(alloc, SECOND)?)?;
     Ok(out)
 }
 
@@ -91,7 +114,7 @@ fn audit_words(alloc: Global, from: &str, to: &str) -> Result<Vec<String>, Alloc
     words_of(
         alloc,
         &[
-            "audit", "--answer", "a", "--auths", "t", "--from", from, "--to", to,
+            "audit", "--root", ROOT, "--answer", "a", "--auths", "t", "--from", from, "--to", to,
         ],
     )
 }
@@ -103,9 +126,9 @@ fn gives<F: Files>(alloc: Global, words: &[String], files: &mut F, status: u8, t
     answered == status && out.bytes() == text.as_bytes()
 }
 
-// The smallest answer, changed at one byte or cut.
-fn changed(alloc: Global, at: usize, value: u8) -> Result<Vec<u8>, Fail> {
-    let mut bytes = smallest(alloc)?;
+// These bytes, changed at one place.
+fn changed(alloc: Global, from: &[u8], at: usize, value: u8) -> Result<Vec<u8>, Fail> {
+    let mut bytes = Vec::from_slice(alloc, from)?;
     if let Some(byte) = bytes.get_mut(at) {
         *byte = value;
     }
@@ -187,13 +210,13 @@ fn names_the_first_malformed_field(rt: HostRuntime) -> Result<(), Fail> {
         (175, 17, "malformed answer 175\n"),
         (174, 2, "malformed answer 175\n"),
     ] {
-        files.put("a", changed(alloc, at, value)?.as_slice())?;
+        files.put("a", changed(alloc, &whole, at, value)?.as_slice())?;
         assert!(rt;
             gives(alloc, words.as_slice(), &mut files, 3, text),
             "at {at}"
         );
     }
-    let mut longer = smallest(alloc)?;
+    let mut longer = Vec::from_slice(alloc, &whole)?;
     put_u8(&mut longer, 0)?;
     files.put("a", longer.as_slice())?;
     assert!(rt;
@@ -225,7 +248,7 @@ fn names_the_first_malformed_field_of_authenticators(rt: HostRuntime) -> Result<
     let alloc = rt.alloc();
     let mut auths = Vec::new(alloc);
     put_bytes(&mut auths, b"NRT1")?;
-    put_auth(&mut auths, 2, 1, &[3; 32])?;
+    put_auth(alloc, &mut auths, 2, 1, &[3; 32])?;
     let words = audit_words(alloc, "0", "0")?;
     let mut files = row_files(alloc)?;
     for (len, text) in [
@@ -248,28 +271,48 @@ fn names_the_first_malformed_field_of_authenticators(rt: HostRuntime) -> Result<
     Ok(())
 }
 
-#[test]
-fn refuses_another_chain(rt: HostRuntime) -> Result<(), Fail> {
-    let alloc = rt.alloc();
+// Whether an audit of the smallest answer, changed at one byte, is refused by this line.
+fn refuses_change(alloc: Global, at: usize, value: u8, text: &str) -> Result<bool, Fail> {
     let mut files = row_files(alloc)?;
-    files.put("a", changed(alloc, 60, 1)?.as_slice())?;
-    let text = format!(in alloc; "refused head {SECOND} {OTHER_SECOND}\n")?;
+    files.put("a", changed(alloc, &smallest(alloc)?, at, value)?.as_slice())?;
     let words = audit_words(alloc, "0", "0")?;
-    assert!(rt; gives(alloc, words.as_slice(), &mut files, 7, text.as_str()));
-    Ok(())
+    Ok(gives(alloc, words.as_slice(), &mut files, 7, text))
 }
 
 #[test]
-fn prints_conflicts_in_file_order(rt: HostRuntime) -> Result<(), Fail> {
+fn refuses_another_chain_and_an_unsigned_head(rt: HostRuntime) -> Result<(), Fail> {
     let alloc = rt.alloc();
-    let mut files = row_files(alloc)?;
+    let head = format!(in alloc; "refused head {SECOND} {OTHER_SECOND}\n")?;
+    assert!(rt; refuses_change(alloc, 60, 1, head.as_str())?);
+    // The head's hash, which is signed; a byte of its secrets and of its path
+    for at in [139, 176, 16_591] {
+        assert!(rt;
+            refuses_change(alloc, at, 0, "refused head unsigned\n")?,
+            "at {at}"
+        );
+    }
+    Ok(())
+}
+
+// Three conflicts, an authenticator of entry 2 as it stands, and one whose first secret byte is changed.
+fn conflicting(alloc: Global) -> Result<Vec<u8>, Fail> {
     let mut auths = Vec::new(alloc);
     put_bytes(&mut auths, b"NRT1")?;
-    put_auth(&mut auths, 5, 0, &[1; 32])?;
-    put_auth(&mut auths, 1, 0, &[2; 32])?;
-    put_auth(&mut auths, 5, 0, &[1; 32])?;
-    put_auth(&mut auths, 2, 1, &digest_of(alloc, SECOND)?)?;
-    files.put("t", auths.as_slice())?;
+    put_auth(alloc, &mut auths, 5, 0, &[1; 32])?;
+    put_auth(alloc, &mut auths, 1, 0, &[2; 32])?;
+    put_auth(alloc, &mut auths, 5, 0, &[1; 32])?;
+    put_auth(alloc, &mut auths, 2, 1, &digest_of(alloc, SECOND)?)?;
+    let at = auths.len().saturating_add(57);
+    put_auth(alloc, &mut auths, 6, 0, &[1; 32])?;
+    let flipped = auths.get(at).copied().unwrap_or(0) ^ 1;
+    changed(alloc, &auths, at, flipped)
+}
+
+#[test]
+fn prints_signed_conflicts_in_file_order(rt: HostRuntime) -> Result<(), Fail> {
+    let alloc = rt.alloc();
+    let mut files = row_files(alloc)?;
+    files.put("t", conflicting(alloc)?.as_slice())?;
     let ones = hex::encode(alloc, [1u8; 32].as_slice())?;
     let twos = hex::encode(alloc, [2u8; 32].as_slice())?;
     let text = format!(in alloc;
@@ -280,35 +323,193 @@ fn prints_conflicts_in_file_order(rt: HostRuntime) -> Result<(), Fail> {
     Ok(())
 }
 
+// Whether an audit under this root of this file of authenticators gives this status and this text.
+fn audit_gives(
+    alloc: Global,
+    files: &mut MemFiles,
+    root: &str,
+    auths: &str,
+    status: u8,
+    text: &str,
+) -> Result<bool, AllocError> {
+    let words = words_of(
+        alloc,
+        &[
+            "audit", "--root", root, "--answer", "a", "--auths", auths, "--from", "0", "--to", "0",
+        ],
+    )?;
+    Ok(gives(alloc, words.as_slice(), files, status, text))
+}
+
 #[test]
-fn each_call_fails_in_turn(rt: HostRuntime) -> Result<(), Fail> {
+fn takes_a_root_of_64_digits(rt: HostRuntime) -> Result<(), Fail> {
+    let alloc = rt.alloc();
+    let mut files = row_files(alloc)?;
+    for (root, status, text) in [
+        (UPPER_ROOT, 0, "clean\n"),
+        (SECOND, 7, "refused head unsigned\n"),
+        (SHORT_ROOT, 2, "usage\n"),
+        ("", 2, "usage\n"),
+    ] {
+        assert!(rt;
+            audit_gives(alloc, &mut files, root, "t", status, text)?,
+            "{root}"
+        );
+    }
+    assert!(rt; audit_gives(alloc, &mut files, ROOT, "u", 7, "refused nofile auths\n")?);
+    assert!(rt; audit_gives(alloc, &mut files, ROOT, "a", 2, "usage\n")?);
+    Ok(())
+}
+
+// Whether a name holds these bytes.
+fn holds(files: &MemFiles, name: &str, bytes: &[u8]) -> bool {
+    match files.bytes(name) {
+        Some(found) => found == bytes,
+        None => false,
+    }
+}
+
+// Whether these words end with status 5, and offer nothing more, where the first call of the sink fails.
+fn fails_at_the_sink(
+    alloc: Global,
+    words: &[String],
+    files: &mut MemFiles,
+) -> Result<bool, Memory> {
+    let mut out = MemSink::new(alloc);
+    out.fail_call(1)?;
+    Ok(run(alloc, words, files, &mut out) == 5 && out.bytes().is_empty())
+}
+
+#[test]
+fn each_call_of_an_audit_fails_in_turn(rt: HostRuntime) -> Result<(), Fail> {
     let alloc = rt.alloc();
     let words = audit_words(alloc, "0", "0")?;
     for call in 1..5u64 {
         let mut files = row_files(alloc)?;
         files.fail_call(call)?;
         assert!(rt; gives(alloc, words.as_slice(), &mut files, 4, "read fault\n"));
+        assert!(rt; holds(&files, "t", b"NRT1"));
     }
     let mut files = row_files(alloc)?;
-    let mut out = MemSink::new(alloc);
-    out.fail_call(1)?;
-    assert_eq!(rt; run(alloc, words.as_slice(), &mut files, &mut out), 5);
-    assert!(rt; out.bytes().is_empty());
-    let absent = words_of(
+    assert!(rt; fails_at_the_sink(alloc, words.as_slice(), &mut files)?);
+    Ok(())
+}
+
+// The words for a key, from the seed file `s` into the file `k`.
+fn keygen_words(alloc: Global, asn: &str, height: &str) -> Result<Vec<String>, AllocError> {
+    words_of(
         alloc,
         &[
-            "audit", "--answer", "a", "--auths", "u", "--from", "0", "--to", "0",
+            "keygen", "--as", asn, "--height", height, "--seed", "s", "--key", "k",
         ],
-    )?;
-    assert!(rt;
-        gives(
-            alloc,
-            absent.as_slice(),
-            &mut files,
-            7,
-            "refused nofile auths\n"
-        )
-    );
+    )
+}
+
+// A seed, and a key file of before.
+fn key_files(alloc: Global, seed: &[u8]) -> Result<MemFiles, Memory> {
+    let mut files = MemFiles::new(alloc);
+    files.put("s", seed)?;
+    files.put("k", b"old")?;
+    Ok(files)
+}
+
+// The key file of AS 64500 and height 1.
+fn key_file(alloc: Global) -> Result<Vec<u8>, Fail> {
+    let mut key = Vec::from_slice(alloc, b"NRK1\x00\x00\xfb\xf4\x01")?;
+    put_bytes(&mut key, &SEED)?;
+    Ok(key)
+}
+
+#[test]
+fn keygen_writes_a_key_and_prints_its_root(rt: HostRuntime) -> Result<(), Fail> {
+    let alloc = rt.alloc();
+    let mut files = key_files(alloc, &SEED)?;
+    let text = format!(in alloc; "root {ROOT}\n")?;
+    let words = keygen_words(alloc, "64500", "1")?;
+    assert!(rt; gives(alloc, words.as_slice(), &mut files, 0, text.as_str()));
+    assert!(rt; holds(&files, "k", key_file(alloc)?.as_slice()));
+    assert!(rt; holds(&files, "s", &SEED));
+    Ok(())
+}
+
+// Whether `keygen` with this seed file ends so, and leaves the key file of before.
+fn keygen_refuses(alloc: Global, seed: &[u8], status: u8, text: &str) -> Result<bool, Fail> {
+    let mut files = key_files(alloc, seed)?;
+    let words = keygen_words(alloc, "64500", "1")?;
+    Ok(gives(alloc, words.as_slice(), &mut files, status, text) && holds(&files, "k", b"old"))
+}
+
+#[test]
+fn keygen_takes_a_seed_of_32_bytes(rt: HostRuntime) -> Result<(), Fail> {
+    let alloc = rt.alloc();
+    let bytes = vec![in alloc; 7u8; 1_048_577]?;
+    for (len, status, text) in [
+        (0, 3, "malformed seed 0\n"),
+        (31, 3, "malformed seed 0\n"),
+        (33, 3, "malformed seed 32\n"),
+        (1_048_576, 3, "malformed seed 32\n"),
+        (1_048_577, 7, "refused limit seed 1048577 1048576\n"),
+    ] {
+        let seed = bytes.get(..len).unwrap_or(&[]);
+        assert!(rt; keygen_refuses(alloc, seed, status, text)?, "of {len}");
+    }
+    let words = keygen_words(alloc, "64500", "1")?;
+    let mut none = MemFiles::new(alloc);
+    assert!(rt; gives(alloc, words.as_slice(), &mut none, 7, "refused nofile seed\n"));
+    assert_eq!(rt; none.calls(), 1);
+    Ok(())
+}
+
+#[test]
+fn keygen_takes_an_as_and_a_height(rt: HostRuntime) -> Result<(), Fail> {
+    let alloc = rt.alloc();
+    let mut files = key_files(alloc, b"short")?;
+    for (asn, height, status, text) in [
+        ("64500", "1", 3, "malformed seed 0\n"),
+        ("4294967295", "16", 3, "malformed seed 0\n"),
+        ("0", "01", 3, "malformed seed 0\n"),
+        ("4294967296", "1", 2, "usage\n"),
+        ("64500", "0", 2, "usage\n"),
+        ("64500", "17", 2, "usage\n"),
+        ("64500", "257", 2, "usage\n"),
+    ] {
+        let words = keygen_words(alloc, asn, height)?;
+        assert!(rt;
+            gives(alloc, words.as_slice(), &mut files, status, text),
+            "{asn} {height}"
+        );
+    }
+    Ok(())
+}
+
+// Whether `keygen` ends so where a call on the files fails, and leaves this in the key file.
+fn keygen_fails(
+    alloc: Global,
+    call: u64,
+    status: u8,
+    text: &str,
+    left: &[u8],
+) -> Result<bool, Fail> {
+    let mut files = key_files(alloc, &SEED)?;
+    files.fail_call(call)?;
+    let words = keygen_words(alloc, "64500", "1")?;
+    Ok(gives(alloc, words.as_slice(), &mut files, status, text) && holds(&files, "k", left))
+}
+
+#[test]
+fn each_call_of_keygen_fails_in_turn(rt: HostRuntime) -> Result<(), Fail> {
+    let alloc = rt.alloc();
+    let whole = key_file(alloc)?;
+    // Size, read, cut, write and sync
+    assert!(rt; keygen_fails(alloc, 1, 4, "read fault\n", b"old")?);
+    assert!(rt; keygen_fails(alloc, 2, 4, "read fault\n", b"old")?);
+    assert!(rt; keygen_fails(alloc, 3, 5, "write fault\n", b"old")?);
+    assert!(rt; keygen_fails(alloc, 4, 5, "write fault\n", b"")?);
+    assert!(rt; keygen_fails(alloc, 5, 5, "write fault\n", &whole)?);
+    let mut files = key_files(alloc, &SEED)?;
+    let words = keygen_words(alloc, "64500", "1")?;
+    assert!(rt; fails_at_the_sink(alloc, words.as_slice(), &mut files)?);
+    assert!(rt; holds(&files, "k", &whole));
     Ok(())
 }
 
@@ -344,6 +545,8 @@ impl Files for TooLong {
     ghost read_faults = { λ _. 2 ^ 64 - 1 };
 
     ghost write_faults = { λ _. 0 };
+
+    ghost is_pending = { λ _ _. false };
 
     fn size(&mut self, _name: &str) -> Result<Option<u64>, Failed> {
         Ok(Some(2_147_483_648))

@@ -1,6 +1,6 @@
 //! Files as the program sees them.
 
-ghost use Rattle.std.specs.Prelude.{◌≡◌, ◌≤◌, ℕ, length, option_map, Option, None, Some, IfOk, OnOk, IsErrOf};
+ghost use Rattle.std.specs.Prelude.{◌≡◌, ◌≢◌, ◌≤◌, ℕ, List, Bool, false, length, option_map, Option, None, Some, IfOk, OnOk, OnErr, IsErrOf};
 ghost use Rattle.nr_ports.specs.Ports.{Contents, bytes_of, read_count, filled, written, cut_to, Torn, TornWrite, TornCut, ChangesOnly, CountsFaults};
 ghost use Rattle.nr_ports.specs.Views.{CountsWriteFaults};
 
@@ -18,13 +18,18 @@ pub trait Files {
     /// How often a call that writes has failed, up to the greatest `u64`.
     ghost write_faults: { Self → ℕ };
 
+    /// Whether a crash may leave under a name something else than a read gives: a call has written there, and
+    /// no sync of the name has answered Ok since.
+    ghost is_pending: { Self → List ℕ → Bool };
+
     /// How many bytes a file has. `None` exactly where the name is absent.
     fn size(&mut self, name: &str) -> Result<Option<u64>, Failed>
         ensures value { (held : Contents) → holds self.old ≡ Some held
             → IfOk result (λ size. size ≡ option_map length (held name.now)) }
         ensures same { holds self.new ≡ holds self.old }
         ensures cause { CountsFaults (read_faults self.old) (read_faults self.new) result }
-        ensures writes { write_faults self.new ≡ write_faults self.old };
+        ensures writes { write_faults self.new ≡ write_faults self.old }
+        ensures pending { is_pending self.new ≡ is_pending self.old };
 
     /// Reads as many bytes as fit from a place on into the front of a buffer, and says how many. Fewer
     /// than fit into the buffer means that the file ends there; an absent name gives 0. After `Failed` the
@@ -37,7 +42,8 @@ pub trait Files {
         ensures within { IfOk result (λ n. n ≤ length into.old) }
         ensures same { holds self.new ≡ holds self.old }
         ensures cause { CountsFaults (read_faults self.old) (read_faults self.new) result }
-        ensures writes { write_faults self.new ≡ write_faults self.old };
+        ensures writes { write_faults self.new ≡ write_faults self.old }
+        ensures pending { is_pending self.new ≡ is_pending self.old };
 
     /// Writes bytes from a place on, over what is there and past the end. The place is at most the size, where
     /// that is told. An absent name is made. After `Failed` the range may hold any bytes, and after `Memory` all
@@ -51,7 +57,9 @@ pub trait Files {
         ensures memory { IsErrOf result WriteFault.Memory → holds self.new ≡ holds self.old }
         ensures untold { holds self.old ≡ None → holds self.new ≡ None }
         ensures cause { CountsWriteFaults (write_faults self.old) (write_faults self.new) result }
-        ensures reads { read_faults self.new ≡ read_faults self.old };
+        ensures reads { read_faults self.new ≡ read_faults self.old }
+        ensures pending { (other : List ℕ) → other ≢ name.now → is_pending self.new other ≡ is_pending self.old other }
+        ensures unwritten { IsErrOf result WriteFault.Memory → is_pending self.new ≡ is_pending self.old };
 
     /// Shortens a file to a length, and never lengthens it. A cut to 0 makes an absent name empty, and one
     /// to more leaves it absent. After `Failed` the range from the length on may hold any bytes.
@@ -63,11 +71,16 @@ pub trait Files {
         ensures memory { IsErrOf result WriteFault.Memory → holds self.new ≡ holds self.old }
         ensures untold { holds self.old ≡ None → holds self.new ≡ None }
         ensures cause { CountsWriteFaults (write_faults self.old) (write_faults self.new) result }
-        ensures reads { read_faults self.new ≡ read_faults self.old };
+        ensures reads { read_faults self.new ≡ read_faults self.old }
+        ensures pending { (other : List ℕ) → other ≢ name.now → is_pending self.new other ≡ is_pending self.old other }
+        ensures unwritten { IsErrOf result WriteFault.Memory → is_pending self.new ≡ is_pending self.old };
 
-    /// Puts what a file holds on the disk. Nothing of what a read gives changes.
+    /// Puts what a file holds on the disk, so that a crash leaves it. Nothing of what a read gives changes.
     fn sync(&mut self, name: &str) -> Result<(), WriteFault>
         ensures same { holds self.new ≡ holds self.old }
         ensures cause { CountsWriteFaults (write_faults self.old) (write_faults self.new) result }
-        ensures reads { read_faults self.new ≡ read_faults self.old };
+        ensures reads { read_faults self.new ≡ read_faults self.old }
+        ensures synced { OnOk result (is_pending self.new name.now ≡ false) }
+        ensures pending { (other : List ℕ) → other ≢ name.now → is_pending self.new other ≡ is_pending self.old other }
+        ensures unsynced { OnErr result (is_pending self.new ≡ is_pending self.old) };
 }

@@ -1,6 +1,6 @@
 //! Files in memory.
 
-ghost use Rattle.std.specs.Prelude.{◌≡◌, ◌≤◌, ◌↔◌, [], Some, option_map, length, is_err, IsTrue, IsErr, IfOk, OnOk, OnErr, IsErrOf};
+ghost use Rattle.std.specs.Prelude.{◌≡◌, ◌≤◌, ◌↔◌, false, [], Some, option_map, length, is_err, IsTrue, IsErr, IfOk, OnOk, OnErr, IsErrOf};
 ghost use Rattle.nr_ports.specs.Ports.{Contents, MemoryFiles, bytes_of, read_count, filled, written, cut_to, raised, held_in, with_file, with_held, holding, calling, listed, counted, fails_next, after_reading};
 ghost use Rattle.nr_ports.specs.Views.{faults_with};
 
@@ -118,6 +118,9 @@ impl Files for MemFiles {
     ghost read_faults = { λ m. m.read_faults };
 
     ghost write_faults = { λ m. m.write_faults };
+
+    // These files have no crash, which could leave something else.
+    ghost is_pending = { λ _ _. false };
 
     // It fails exactly where its number is listed.
     fn size(&mut self, name: &str) -> Result<Option<u64>, Failed>

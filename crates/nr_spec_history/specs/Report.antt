@@ -6,12 +6,14 @@ use Rattle.std.specs.Fmt.{decimal}
 use Rattle.hex.specs.Hex.{encode_lower}
 use Rattle.nr_spec_log.specs.Authenticator.{Authenticator}
 use Rattle.nr_spec_log.specs.Answer.{AnswerFile}
-use Rattle.nr_spec_history.specs.Conflicts.{Period, answer_value, conflicts_of}
+use Rattle.nr_spec_history.specs.Conflicts.{Period, is_signed, answer_value, conflicts_of}
 
 -- what an answer is refused for, with the values that show it
 pub data Fact : Type 0 where
   -- it doesn't start with entry 1
   Form : Fact
+  -- its head isn't signed under the audited root
+  Unsigned : Fact
   -- its head has another hash than the chain's last value
   Head : (head : List ℕ) (chain : List ℕ) → Fact
   -- its head's time isn't above the period's end
@@ -22,12 +24,13 @@ abbrev pub holds_or : {A : Type 0} → Bool → Fact → Result A Fact → Resul
 holds_or test fact next = if test then next else Err fact
 
 -- the first fact for which the answer is refused, or the conflicts
-unfoldable pub outcome : AnswerFile → Period → List Authenticator → Result (List Authenticator) Fact
-outcome answer period auths =
+unfoldable pub outcome : List ℕ → AnswerFile → Period → List Authenticator → Result (List Authenticator) Fact
+outcome root answer period auths =
     holds_or (answer.first == 1) Form
+    (holds_or (is_signed root answer.head) Unsigned
     (holds_or (bytes_eq answer.head.hash (answer_value answer)) (Head answer.head.hash (answer_value answer))
     (holds_or (not (nat_le answer.head.time period.to)) (Short answer.head.time period.to)
-    (Ok (conflicts_of answer period auths))))
+    (Ok (conflicts_of root answer period auths)))))
 
 -- ---- text
 

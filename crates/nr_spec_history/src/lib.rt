@@ -1,3 +1,6 @@
-//! What has to be believed about an audit: which authenticators accuse a network, and what the audit says
-//! of an answer. The definitions stand in `specs/`; this crate has no code.
+//! What has to be believed about an audit and about the keys of a network: which authenticators accuse it, what
+//! the audit says of an answer, and what stands in a key file. The definitions stand in `specs/`; the only functions are
+//! laws of them.
 #![tactic(auto)]
+
+pub mod laws;

@@ -11,5 +11,5 @@ use Rattle.netreview.proofs.conflicts.conflict_lines.Given as goal
 -- The lines so far and those of the authenticators that are left are those of all.
 abbrev pub invariant-loop-auth : goal.invariant-loop-auth
 invariant-loop-auth l =
-    string_bytes l.text ++ flat_map conflict_line (filter (is_conflict l.asn (period_of l.period) (links_in l.links)) l.auth-iterator)
-    ≡ flat_map conflict_line (filter (is_conflict l.asn (period_of l.period) (links_in l.links)) l.auths)
+    string_bytes l.text ++ flat_map conflict_line (filter (is_conflict l.request.root.0 l.answer.asn (period_of l.request.period) (links_in l.links)) l.auth-iterator)
+    ≡ flat_map conflict_line (filter (is_conflict l.request.root.0 l.answer.asn (period_of l.request.period) (links_in l.links)) l.auths)

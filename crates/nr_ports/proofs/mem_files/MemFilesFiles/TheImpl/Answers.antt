@@ -18,6 +18,8 @@ write_at-tells c =
       untold = λ none. absurd (cc);
       cause = counts c.result c.args.self.now.write_faults c.new.self.now.write_faults c.ensures.writes;
       reads = c.ensures.reads;
+      pending = λ other is. refl;
+      unwritten = λ is. refl;
     }
 
 pub cut-tells : goal.cut-tells
@@ -31,4 +33,6 @@ cut-tells c =
       untold = λ none. absurd (cc);
       cause = counts c.result c.args.self.now.write_faults c.new.self.now.write_faults c.ensures.writes;
       reads = c.ensures.reads;
+      pending = λ other is. refl;
+      unwritten = λ is. refl;
     }
