@@ -1,0 +1,53 @@
+-- A loop that finds something of each item, up to the first fault.
+use Rattle.std.proofs.Common.{◌≡◌, ℕ, suc, ◌+◌, ◌<◌, ◌≤◌, List, [], ◌∷◌, ◌++◌, length, drop, get_or, Result, Ok, Err, refl, ap, sym, ◌∙◌, append_assoc, arith}
+use Rattle.std.proofs.Math.Seq.{drop-cons}
+use Rattle.std.proofs.Math.ListN.{drop_of_length-le}
+use Rattle.std.proofs.lemmas.List.{append-nil}
+use Rattle.nr_spec_wire.specs.Reading.{◌>>=◌}
+use Rattle.nr_spec_typing.specs.Steps.{all_of}
+use Rattle.nr_rule_types.specs.declared.fault.TypeError.{TypeError}
+use Rattle.nr_rule_types.specs.declared.fault.TypeError.TheVariants.{At, Memory}
+use Rattle.nr_rule_types.specs.Views.{Fails}
+
+abbrev pub behind : {B : Type 0} → List B → Result (List B) ℕ → Result (List B) ℕ
+behind front (Ok more) = Ok (front ++ more)
+behind front (Err place) = Err place
+
+-- what is left of the list, from its next item on
+pub first_left : {A : Type 0} (xs : List A) (i : ℕ) (x : A) → i < length xs → x ≡ get_or xs i x → drop i xs ≡ x ∷ drop (i + 1) xs
+first_left xs i x lt e =
+    let n : suc i ≡ i + 1 = omega arith in
+    drop-cons xs i x lt ∙ ap (λ y. y ∷ drop (suc i) xs) (sym e) ∙ ap (λ k. x ∷ drop k xs) n
+
+none_before : {B : Type 0} (read : Result (List B) ℕ) → behind [] read ≡ read
+none_before (Ok more) = refl
+none_before (Err place) = refl
+
+one_more : {B : Type 0} (front : List B) (y : B) (read : Result (List B) ℕ) → behind (front ++ y ∷ []) read ≡ behind front (read >>= (λ more. Ok (y ∷ more)))
+one_more front y (Ok more) = ap (λ l. Ok l) (append_assoc front (y ∷ []) more)
+one_more front y (Err place) = refl
+
+-- what is there so far, before what is found of the rest, is the whole
+pub record IsSoFar {A B : Type 0} (f : A → Result B ℕ) (xs : List A) (i : ℕ) (front : List B) : Type 0 where
+  pub same : behind front (all_of f (drop i xs)) ≡ all_of f xs
+
+pub so_far_none : {A B : Type 0} (f : A → Result B ℕ) (xs : List A) → IsSoFar f xs 0 []
+so_far_none f xs = record { same = none_before (all_of f xs) }
+
+pub so_far_more : {A B : Type 0} {f : A → Result B ℕ} {xs : List A} {i : ℕ} {front : List B} → IsSoFar f xs i front
+    → (x : A) (y : B) → i < length xs → x ≡ get_or xs i x → f x ≡ Ok y → IsSoFar f xs (i + 1) (front ++ y ∷ [])
+unfolding all_of
+so_far_more {f = f} {xs = xs} {i = i} {front = front} h x y lt e g = record {
+  same = one_more front y (all_of f (drop (i + 1) xs)) ∙ (rw (first_left xs i x lt e, g) at h.same);
+}
+
+pub so_far_fails : {A B : Type 0} {f : A → Result B ℕ} {xs : List A} {i : ℕ} {front : List B} → IsSoFar f xs i front
+    → (x : A) (e : TypeError) → i < length xs → x ≡ get_or xs i x → Fails (f x) e → Fails (all_of f xs) e
+unfolding all_of
+so_far_fails h x Memory lt e g = tt
+so_far_fails {f = f} {xs = xs} {i = i} {front = front} h x (At place) lt e g = sym (rw (first_left xs i x lt e, g) at h.same)
+
+pub so_far_done : {A B : Type 0} {f : A → Result B ℕ} {xs : List A} {i : ℕ} {front : List B} → IsSoFar f xs i front
+    → length xs ≤ i → all_of f xs ≡ Ok front
+unfolding all_of
+so_far_done {f = f} {xs = xs} {i = i} {front = front} h le = sym (rw (drop_of_length-le xs le) at h.same) ∙ ap (λ l. Ok l) (append-nil front)
