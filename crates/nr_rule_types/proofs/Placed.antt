@@ -46,3 +46,20 @@ placed_more (e ∷ names) d word new =
     more_step e.word word d.word (length names) (bytes_eq d.word word) (place names word) (place (names ++ d ∷ []) word) refl
     (other e (bytes_eq e.word d.word) (meaning names d.word) new)
     (placed_more names d word (others e (bytes_eq e.word d.word) (meaning names d.word) new))
+
+-- what a look-up by place says
+pub find_none : (names : List Declared) (word : List ℕ) (found : Option ℕ) → found ≡ place names word → None ≡ found → meaning names word ≡ None
+find_none names word found i w = meaning_placed names word ∙ ap (meaning_at names) (sym i ∙ sym w)
+
+pub find_missing : (names : List Declared) (word : List ℕ) (found : Option ℕ) (n : ℕ) → found ≡ place names word → Some n ≡ found → None ≡ slice_get names n
+    → meaning names word ≡ None
+find_missing names word found n i w s = meaning_placed names word ∙ ap (meaning_at names) (sym i ∙ sym w) ∙ ap (option_map (λ (d : Declared). d.means)) (sym s)
+
+pub find_some : (names : List Declared) (word : List ℕ) (found : Option ℕ) (n : ℕ) (d : Declared) → found ≡ place names word → Some n ≡ found → Some d ≡ slice_get names n
+    → meaning names word ≡ Some d.means
+find_some names word found n d i w s = meaning_placed names word ∙ ap (meaning_at names) (sym i ∙ sym w) ∙ ap (option_map (λ (d : Declared). d.means)) (sym s)
+
+-- one name more, in the names and in their places
+pub indexed_more : (names more : List Declared) (d : Declared) (q bs : List ℕ) (at : ℕ) (old new : Option ℕ) → meaning names d.word ≡ None → bs ≡ d.word → at ≡ length names
+    → old ≡ place names q → new ≡ cond (bytes_eq bs q) (Some at) old → more ≡ names ++ d ∷ [] → new ≡ place more q
+indexed_more names more d q bs at old new none b a o n m = rw (n, o, b, a, m) (sym (placed_more names d q none))

@@ -1,6 +1,6 @@
 //! Declarations, one behind another.
 
-ghost use Rattle.std.specs.Prelude.{◌≡◌, ◌≤◌, [], true, IfOk, IfErr};
+ghost use Rattle.std.specs.Prelude.{◌≡◌, ◌≤◌, [], map, true, IfOk, IfErr};
 ghost use Rattle.std.specs.List.{All};
 ghost use Rattle.nr_rule_syntax.specs.Nesting.{depth, IsNested};
 ghost use Rattle.nr_spec_typing.specs.Declarations as spec;
@@ -18,7 +18,7 @@ use nr_rule_syntax::{Decl, File, Form, Name, Num, PatternText, PrefixText, RootT
 use nr_spec_rules::Span;
 use nr_spec_typing::{Named, Neighbour, Promise, Shared};
 use sqlite_items::Items;
-use std::alloc::Global;
+use std::alloc::{AllocError, Global};
 use std::marker::Model;
 
 /// The most neighbours and the most promises of a text.
@@ -47,9 +47,13 @@ pub struct Known<'a> {
 }
 
 impl<'a> Model for Known<'a> {
+    ghost use Rattle.std.specs.Coded.{codes};
     ghost use Rattle.nr_spec_typing.specs.Declarations.{Known};
+    ghost use Rattle.nr_spec_typing.specs.contracts.tree.Typing as e;
 
     ghost Value = { Known };
+
+    ghost coded = { Prim.hlevel (codes, e.the_row.coded) };
 
     ghost view = { λ k. record { network = k.network; commit = k.commit; names = k.names; neighbours = k.neighbours; promises = k.promises } };
 }
@@ -292,15 +296,21 @@ fn define<'a>(
     declared(alloc, known, name, Named::Define(set))
 }
 
-// The prefixes after `at`.
+fn prefixes(alloc: Global, texts: &[PrefixText]) -> Result<Items<Prefix>, AllocError>
+    ensures { IfOk result (λ prefixes. prefixes ≡ map (λ p. p.prefix) texts.now) }
+{
+    let prefixes = texts.iter().map(|text| text.prefix).collect(alloc)?;
+    Ok(Items::from_vec(prefixes))
+}
+
+// The prefixes after `at`, 1,024 at most.
 fn places(alloc: Global, texts: &[PrefixText]) -> Result<Items<Prefix>, TypeError>
     ensures { Answers (spec.places texts.now) result }
 {
-    if let Some(text) = texts.get(MOST_PLACES) {
+    if let Some(text) = sqlite_items::at(texts, MOST_PLACES) {
         return Err(at(text.span));
     }
-    let prefixes = texts.iter().map(|text| text.prefix).collect(alloc)?;
-    Ok(Items::from_vec(prefixes))
+    Ok(prefixes(alloc, texts)?)
 }
 
 // `promise NAME grace NUMBER [ at PREFIX { , PREFIX } ] { Form }`

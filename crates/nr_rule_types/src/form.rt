@@ -1,7 +1,9 @@
 //! Formulas. A call goes deeper only as the formula nests.
 
 ghost use Rattle.std.specs.Prelude.{◌≡◌, ◌+◌, ◌<◌, ◌≤◌, length, map, OnOk};
-ghost use Rattle.nr_rule_syntax.specs.Nesting.{depth, measured, most_within};
+ghost use Rattle.nr_rule_syntax.specs.Nesting.{depth};
+ghost use Rattle.nr_rule_types.specs.Depths.{deepest};
+ghost use Rattle.nr_spec_typing.specs.Scopes.{bind};
 ghost use Rattle.nr_spec_typing.specs.Forms as spec;
 ghost use Rattle.nr_rule_types.specs.Views.{Answers};
 
@@ -30,7 +32,7 @@ fn each(
     scope: &mut Scope<'_, '_>,
     members: &[Form],
 ) -> Result<Items<Typing>, TypeError>
-    requires { length scope.old.variables + most_within 0 (map measured members.now) ≤ 64 }
+    requires { length scope.old.variables + deepest members.now ≤ 64 }
     ensures value { Answers (spec.each (map spec.typed members.now) scope.old) result }
     ensures kept { OnOk result (scope.new ≡ scope.old) }
 {
@@ -59,6 +61,26 @@ fn implies(
     Ok(Typing::Implies(left, right))
 }
 
+// A formula in the scope of one variable more.
+#[cycle(form)]
+fn within(
+    alloc: Global,
+    scope: &mut Scope<'_, '_>,
+    bound: Bound,
+    var: &Name,
+    form: &Form,
+) -> Result<Boxed<Typing>, TypeError>
+    requires { length scope.old.variables + depth form.now < 64 }
+    ensures value { Answers (spec.typed form.now (bind scope.old bound var.now)) result }
+    ensures kept { OnOk result (scope.new ≡ scope.old) }
+{
+    let depth = scope.depth();
+    scope.bind(alloc, bound, var)?;
+    let form = held(alloc, scope, form)?;
+    scope.leave(depth);
+    Ok(form)
+}
+
 // The group of `all` or `some`, and what is held of each of its neighbours.
 #[cycle(form)]
 #[tactic(auto, unfolding(nr_spec_typing::specs::Forms::over_group))]
@@ -73,11 +95,9 @@ fn over_group(
     ensures value { Answers (spec.over_group var.now among.now (spec.typed form.now) scope.old) result }
     ensures kept { OnOk result (scope.new ≡ scope.old) }
 {
-    let depth = scope.depth();
-    scope.bind(alloc, Bound::Neighbour, var)?;
+    scope.check_new(var)?;
     let members = scope.group(among)?;
-    let form = held(alloc, scope, form)?;
-    scope.leave(depth);
+    let form = within(alloc, scope, Bound::Neighbour, var, form)?;
     Ok((members, form))
 }
 
@@ -97,14 +117,13 @@ fn conditional(
     ensures value { Answers (spec.conditional var.now side of.now (spec.typed yes.now) (spec.typed no.now) scope.old) result }
     ensures kept { OnOk result (scope.new ≡ scope.old) }
 {
-    let depth = scope.depth();
-    scope.bind(alloc, Bound::Route, var)?;
+    scope.check_new(var)?;
     let of = scope.who(of)?;
-    let yes = held(alloc, scope, yes)?;
-    scope.leave(depth);
+    let yes = within(alloc, scope, Bound::Route, var, yes)?;
     let no = held(alloc, scope, no)?;
+    let var = scope.depth();
     Ok(Typing::If {
-        var: depth,
+        var,
         side,
         of,
         yes,

@@ -2,7 +2,6 @@
 //! `check` answers is well typed, so that whether its formulas hold can always be told.
 #![tactic(auto)]
 
-mod check;
 mod copy;
 mod declaration;
 mod fault;
@@ -10,7 +9,8 @@ mod form;
 mod names;
 mod scope;
 mod term;
+mod text;
 
-pub use check::{Typed, check};
 pub use fault::TypeError;
 pub use nr_spec_typing::{Neighbour, Promise, Shared, Typing, Value, Who};
+pub use text::{Typed, check};

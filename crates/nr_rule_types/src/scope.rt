@@ -1,6 +1,8 @@
 //! What the names in a formula stand for.
 
-ghost use Rattle.std.specs.Prelude.{◌≡◌, ◌<◌, ◌≤◌, [], length, take, option_map};
+ghost use Rattle.std.specs.Prelude.{◌≡◌, ◌<◌, ◌≤◌, [], length, take, IfSome, OnOk};
+ghost use Rattle.std.specs.List.{list_any};
+ghost use Rattle.std.specs.Str.{bytes_eq};
 ghost use Rattle.nr_spec_typing.specs.Scopes as spec;
 ghost use Rattle.nr_rule_types.specs.Views.{Answers, Gives};
 
@@ -9,11 +11,8 @@ use crate::names::Names;
 use nr_prefix::Pattern;
 use nr_rule_syntax::{Name, Word};
 use nr_spec_typing::{Bound, Named, Shared, Variable, Who};
-use std::alloc::Global;
+use std::alloc::{AllocError, Global};
 use std::marker::Model;
-
-/// How many variables may be bound at a place.
-const MOST_VARIABLES: usize = 64;
 
 /// The names that were declared, and the variables that are bound at a place, the outermost first.
 #[derive(Drop)]
@@ -33,11 +32,26 @@ impl<'n, 'a> Model for Scope<'n, 'a> {
     ghost invariant = { λ s. length s.variables.items ≤ 64 };
 }
 
-// Whether a variable has this name and stands for this.
+// Whether a variable has this name.
+fn is_named(variable: &Variable, word: &[u8]) -> bool
+    ensures { result ≡ bytes_eq variable.now.word word.now }
+{
+    variable.word.bytes() == word
+}
+
+// The same, and whether it stands for this.
 fn is_called(variable: &Variable, bound: Bound, word: &[u8]) -> bool
     ensures { result ≡ spec.is_called bound word.now variable.now }
 {
-    variable.word.bytes() == word && variable.bound == bound
+    is_named(variable, word) && variable.bound == bound
+}
+
+// Where the variable with this name stands, which stands for this.
+fn place_of(variables: &[Variable], bound: Bound, word: &[u8]) -> Option<usize>
+    ensures value { result ≡ spec.variable bound variables.now word.now }
+    ensures within { IfSome result (λ n. n < length variables.now) }
+{
+    variables.iter().position(|v| is_called(v, bound, word))
 }
 
 impl<'n, 'a> Scope<'n, 'a> {
@@ -61,11 +75,10 @@ impl<'n, 'a> Scope<'n, 'a> {
 
     // The number of the variable with this name, which stands for this.
     fn variable(&self, bound: Bound, name: &Name) -> Option<u8>
-        ensures { option_map (λ n. n) result ≡ spec.variable bound self.now.variables name.now.word }
+        ensures { result ≡ spec.variable bound self.now.variables name.now.word }
     {
-        let word = name.word.bytes();
-        let at = self.variables.iter().position(|v| is_called(v, bound, word))?;
-        Some(at as u8)
+        let place = place_of(self.variables.as_slice(), bound, name.word.bytes())?;
+        Some(place as u8)
     }
 
     /// A neighbour: a variable that stands for one, or its name.
@@ -112,22 +125,29 @@ impl<'n, 'a> Scope<'n, 'a> {
         }
     }
 
-    // Whether no declared name and no variable around has this name.
-    fn is_fresh(&self, word: &[u8]) -> bool
-        ensures { result ≡ spec.is_fresh self.now word.now }
+    // Whether a variable around has this name.
+    fn is_bound(&self, word: &[u8]) -> bool
+        ensures { result ≡ list_any (λ v. bytes_eq v.word word.now) self.now.variables }
     {
-        self.names.find(word).is_none() && !self.variables.iter().any(|v| v.word.bytes() == word)
+        self.variables.iter().any(|v| is_named(v, word))
+    }
+
+    /// A variable has to have a name that no declaration before it and no variable around has.
+    #[tactic(auto, unfolding(nr_spec_typing::specs::Scopes::new_variable))]
+    pub fn check_new(&self, name: &Name) -> Result<(), TypeError>
+        ensures { Gives (spec.new_variable self.now name.now) result name.now }
+    {
+        if !self.names.is_new(name) || self.is_bound(name.word.bytes()) {
+            return Err(at(name.span));
+        }
+        Ok(())
     }
 
     /// Binds a variable, which stands for this.
-    #[tactic(auto, unfolding(nr_spec_typing::specs::Scopes::bind))]
-    pub fn bind(&mut self, alloc: Global, bound: Bound, name: &Name) -> Result<(), TypeError>
+    pub fn bind(&mut self, alloc: Global, bound: Bound, name: &Name) -> Result<(), AllocError>
         requires { length self.old.variables < 64 }
-        ensures { Gives (spec.bind self.old bound name.now) result self.new }
+        ensures { OnOk result (self.new ≡ spec.bind self.old bound name.now) }
     {
-        if !self.is_fresh(name.word.bytes()) {
-            return Err(at(name.span));
-        }
         let word = Word::from_slice(alloc, name.word.bytes())?;
         self.variables.push(Variable { word, bound })?;
         Ok(())

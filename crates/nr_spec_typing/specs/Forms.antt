@@ -17,7 +17,7 @@ use Rattle.nr_spec_typing.specs.declared.tree.Value.TheVariants as values
 use Rattle.nr_spec_typing.specs.declared.tree.Typing.{Typing}
 use Rattle.nr_spec_typing.specs.declared.tree.Typing.TheVariants as typings
 use Rattle.nr_spec_typing.specs.Steps.{◌<$>◌, all_of}
-use Rattle.nr_spec_typing.specs.Scopes.{Scope, who, route, group, set, bind}
+use Rattle.nr_spec_typing.specs.Scopes.{Scope, who, route, group, set, new_variable, bind}
 
 abbrev pub value : Scope → Term → Result Value ℕ
 value s (terms.Number n) = Ok (values.Number n.value)
@@ -48,17 +48,17 @@ implies left right s = do
 -- `all` and `some` bind a variable for a neighbour: the group's members, and what is held of each
 unfoldable pub over_group : Name → Name → Typer → Scope → Result (List ℕ × Typing) ℕ
 over_group var among form s = do
-  inner ← bind s Neighbour var
+  called ← new_variable s var
   members ← group s among
-  held ← form inner
+  held ← form (bind s Neighbour called)
   Ok (members, held)
 
 -- `if` binds a variable for a route, in the part after `then` alone
 unfoldable pub conditional : Name → Side → Name → Typer → Typer → Scope → Result Typing ℕ
 conditional var side of yes_ no_ s = do
-  inner ← bind s Route var
+  called ← new_variable s var
   from ← who s of
-  then_ ← yes_ inner
+  then_ ← yes_ (bind s Route called)
   else_ ← no_ s
   Ok (typings.If (length s.variables) side from then_ else_)
 

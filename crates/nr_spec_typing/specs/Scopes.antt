@@ -79,6 +79,10 @@ set s name = set_by name.span.from (meaning s.names name.word)
 abbrev pub is_fresh : Scope → List ℕ → Bool
 is_fresh s word = is_none (meaning s.names word) && not (list_any (λ v. bytes_eq v.word word) s.variables)
 
+-- the name of a new variable
+unfoldable pub new_variable : Scope → Name → Result Name ℕ
+new_variable s name = wants (is_fresh s name.word) name.span.from name
+
 -- the scope of a variable, which stands for this
-unfoldable pub bind : Scope → Bound → Name → Result Scope ℕ
-bind s bound name = wants (is_fresh s name.word) name.span.from (record s { variables = s.variables ++ record { word = name.word; bound = bound } ∷ [] })
+abbrev pub bind : Scope → Bound → Name → Scope
+bind s bound name = record s { variables = s.variables ++ record { word = name.word; bound = bound } ∷ [] }

@@ -27,9 +27,13 @@ pub struct Typed {
 }
 
 impl Model for Typed {
+    ghost use Rattle.std.specs.Coded.{codes};
     ghost use Rattle.nr_spec_typing.specs.Declarations.{TypedText};
+    ghost use Rattle.nr_spec_typing.specs.contracts.tree.Typing as e;
 
     ghost Value = { TypedText };
+
+    ghost coded = { Prim.hlevel (codes, e.the_row.coded) };
 
     ghost view = { λ t. record { network = t.network; commit = t.commit; neighbours = t.neighbours; promises = t.promises } };
 }
