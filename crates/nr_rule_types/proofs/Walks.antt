@@ -1,10 +1,10 @@
 -- A loop that finds something of each item, up to the first fault.
-use Rattle.std.proofs.Common.{◌≡◌, ℕ, suc, ◌+◌, ◌<◌, ◌≤◌, List, [], ◌∷◌, ◌++◌, length, drop, get_or, Result, Ok, Err, refl, ap, sym, ◌∙◌, append_assoc, arith}
+use Rattle.std.proofs.Common.{◌≡◌, ℕ, suc, ◌+◌, ◌<◌, ◌≤◌, List, [], ◌∷◌, ◌++◌, map, length, drop, get_or, Result, Ok, Err, refl, ap, sym, ◌∙◌, append_assoc, arith}
 use Rattle.std.proofs.Math.Seq.{drop-cons}
 use Rattle.std.proofs.Math.ListN.{drop_of_length-le}
 use Rattle.std.proofs.lemmas.List.{append-nil}
 use Rattle.nr_spec_wire.specs.Reading.{◌>>=◌}
-use Rattle.nr_spec_typing.specs.Steps.{all_of}
+use Rattle.nr_spec_typing.specs.Steps.{all_of, in_turn}
 use Rattle.nr_rule_types.specs.declared.fault.TypeError.{TypeError}
 use Rattle.nr_rule_types.specs.declared.fault.TypeError.TheVariants.{At, Memory}
 use Rattle.nr_rule_types.specs.Views.{Fails}
@@ -51,3 +51,33 @@ pub so_far_done : {A B : Type 0} {f : A → Result B ℕ} {xs : List A} {i : ℕ
     → length xs ≤ i → all_of f xs ≡ Ok front
 unfolding all_of
 so_far_done {f = f} {xs = xs} {i = i} {front = front} h le = sym (rw (drop_of_length-le xs le) at h.same) ∙ ap (λ l. Ok l) (append-nil front)
+
+pub all_of_map : {A B C : Type 0} (f : B → Result C ℕ) (g : A → B) (xs : List A) → all_of f (map g xs) ≡ all_of (λ x. f (g x)) xs
+unfolding all_of
+all_of_map f g [] = refl
+all_of_map f g (x ∷ xs) = ap (λ others. f (g x) >>= (λ first. others >>= (λ more. Ok (first ∷ more)))) (all_of_map f g xs)
+
+-- ---- a loop in which each makes something of what was there before
+
+-- what is there so far, with the rest still to come, gives what the whole gives
+pub record IsOnItsWay {A S : Type 0} (step : S → A → Result S ℕ) (start : S) (xs : List A) (i : ℕ) (now : S) : Type 0 where
+  pub same : in_turn step now (drop i xs) ≡ in_turn step start xs
+
+pub way_start : {A S : Type 0} (step : S → A → Result S ℕ) (start : S) (xs : List A) → IsOnItsWay step start xs 0 start
+way_start step start xs = record { same = refl }
+
+pub way_more : {A S : Type 0} {step : S → A → Result S ℕ} {start : S} {xs : List A} {i : ℕ} {now : S} → IsOnItsWay step start xs i now
+    → (x : A) (next : S) → i < length xs → x ≡ get_or xs i x → step now x ≡ Ok next → IsOnItsWay step start xs (i + 1) next
+unfolding in_turn
+way_more {xs = xs} {i = i} h x next lt e g = record { same = rw (first_left xs i x lt e, g) at h.same }
+
+pub way_fails : {A S : Type 0} {step : S → A → Result S ℕ} {start : S} {xs : List A} {i : ℕ} {now : S} → IsOnItsWay step start xs i now
+    → (x : A) (e : TypeError) → i < length xs → x ≡ get_or xs i x → Fails (step now x) e → Fails (in_turn step start xs) e
+unfolding in_turn
+way_fails h x Memory lt e g = tt
+way_fails {xs = xs} {i = i} h x (At place) lt e g = sym (rw (first_left xs i x lt e, g) at h.same)
+
+pub way_done : {A S : Type 0} {step : S → A → Result S ℕ} {start : S} {xs : List A} {i : ℕ} {now : S} → IsOnItsWay step start xs i now
+    → length xs ≤ i → in_turn step start xs ≡ Ok now
+unfolding in_turn
+way_done {xs = xs} h le = sym (rw (drop_of_length-le xs le) at h.same)

@@ -1,6 +1,6 @@
 //! Declarations, one behind another.
 
-ghost use Rattle.std.specs.Prelude.{◌≡◌, ◌≤◌, [], map, true, IfOk, IfErr};
+ghost use Rattle.std.specs.Prelude.{◌≡◌, ◌≤◌, map, true, IfOk, IfErr};
 ghost use Rattle.std.specs.List.{All};
 ghost use Rattle.nr_rule_syntax.specs.Nesting.{depth, IsNested};
 ghost use Rattle.nr_spec_typing.specs.Declarations as spec;
@@ -191,7 +191,7 @@ fn member(names: &Names<'_>, before: &[u16], name: &Name) -> Result<u16, TypeErr
 
 // The members of a group.
 fn members(alloc: Global, names: &Names<'_>, texts: &[Name]) -> Result<Shared<u16>, TypeError>
-    ensures { Answers (spec.members_from names.now [] texts.now) result }
+    ensures { Answers (spec.members names.now texts.now) result }
 {
     let mut numbers = Vec::new(alloc);
     for text in texts {
@@ -387,7 +387,7 @@ fn declaration<'a>(
 /// What the declarations of a text say.
 pub fn declarations<'a>(alloc: Global, file: &'a File) -> Result<Known<'a>, TypeError>
     requires { All IsNested file.now.decls }
-    ensures { Answers (spec.declarations spec.nothing file.now.decls) result }
+    ensures { Answers (spec.declarations file.now.decls) result }
 {
     let mut known = Known {
         network: None,

@@ -10,7 +10,7 @@ ghost use Rattle.nr_rule_types.specs.Views.{Answers};
 use crate::fault::TypeError;
 use crate::scope::Scope;
 use crate::term::{compared, crosses, is_same};
-use nr_rule_syntax::{Form, Name, Side};
+use nr_rule_syntax::{Form, Name};
 use nr_spec_typing::{Bound, Shared, Typing};
 use sqlite_items::{Boxed, Items};
 use std::alloc::Global;
@@ -18,7 +18,7 @@ use std::alloc::Global;
 // The same, in a box of its own.
 #[cycle(form)]
 fn held(alloc: Global, scope: &mut Scope<'_, '_>, form: &Form) -> Result<Boxed<Typing>, TypeError>
-    requires { length scope.old.variables + depth form.now ≤ 64 }
+    requires levels { length scope.old.variables + depth form.now ≤ 64 }
     ensures value { Answers (spec.typed form.now scope.old) result }
     ensures kept { OnOk result (scope.new ≡ scope.old) }
 {
@@ -32,7 +32,7 @@ fn each(
     scope: &mut Scope<'_, '_>,
     members: &[Form],
 ) -> Result<Items<Typing>, TypeError>
-    requires { length scope.old.variables + deepest members.now ≤ 64 }
+    requires levels { length scope.old.variables + deepest members.now ≤ 64 }
     ensures value { Answers (spec.each (map spec.typed members.now) scope.old) result }
     ensures kept { OnOk result (scope.new ≡ scope.old) }
 {
@@ -41,24 +41,6 @@ fn each(
         items.push(typed(alloc, scope, member)?)?;
     }
     Ok(items)
-}
-
-#[cycle(form)]
-#[tactic(auto, unfolding(nr_spec_typing::specs::Forms::implies))]
-fn implies(
-    alloc: Global,
-    scope: &mut Scope<'_, '_>,
-    left: &Form,
-    right: &Form,
-) -> Result<Typing, TypeError>
-    requires left { length scope.old.variables + depth left.now ≤ 64 }
-    requires right { length scope.old.variables + depth right.now ≤ 64 }
-    ensures value { Answers (spec.implies (spec.typed left.now) (spec.typed right.now) scope.old) result }
-    ensures kept { OnOk result (scope.new ≡ scope.old) }
-{
-    let left = held(alloc, scope, left)?;
-    let right = held(alloc, scope, right)?;
-    Ok(Typing::Implies(left, right))
 }
 
 // A formula in the scope of one variable more.
@@ -70,7 +52,7 @@ fn within(
     var: &Name,
     form: &Form,
 ) -> Result<Boxed<Typing>, TypeError>
-    requires { length scope.old.variables + depth form.now < 64 }
+    requires levels { length scope.old.variables + depth form.now < 64 }
     ensures value { Answers (spec.typed form.now (bind scope.old bound var.now)) result }
     ensures kept { OnOk result (scope.new ≡ scope.old) }
 {
@@ -91,7 +73,7 @@ fn over_group(
     among: &Name,
     form: &Form,
 ) -> Result<(Shared<u16>, Boxed<Typing>), TypeError>
-    requires { length scope.old.variables + depth form.now < 64 }
+    requires levels { length scope.old.variables + depth form.now < 64 }
     ensures value { Answers (spec.over_group var.now among.now (spec.typed form.now) scope.old) result }
     ensures kept { OnOk result (scope.new ≡ scope.old) }
 {
@@ -101,44 +83,21 @@ fn over_group(
     Ok((members, form))
 }
 
-#[cycle(form)]
-#[tactic(auto, unfolding(nr_spec_typing::specs::Forms::conditional))]
-fn conditional(
-    alloc: Global,
-    scope: &mut Scope<'_, '_>,
-    var: &Name,
-    side: Side,
-    of: &Name,
-    yes: &Form,
-    no: &Form,
-) -> Result<Typing, TypeError>
-    requires yes { length scope.old.variables + depth yes.now < 64 }
-    requires no { length scope.old.variables + depth no.now < 64 }
-    ensures value { Answers (spec.conditional var.now side of.now (spec.typed yes.now) (spec.typed no.now) scope.old) result }
-    ensures kept { OnOk result (scope.new ≡ scope.old) }
-{
-    scope.check_new(var)?;
-    let of = scope.who(of)?;
-    let yes = within(alloc, scope, Bound::Route, var, yes)?;
-    let no = held(alloc, scope, no)?;
-    let var = scope.depth();
-    Ok(Typing::If {
-        var,
-        side,
-        of,
-        yes,
-        no,
-    })
-}
-
 /// A formula in its scope, with its names resolved.
 #[cycle(form)]
+#[tactic(
+    auto,
+    unfolding(
+        nr_spec_typing::specs::Forms::implies,
+        nr_spec_typing::specs::Forms::conditional
+    )
+)]
 pub fn typed(
     alloc: Global,
     scope: &mut Scope<'_, '_>,
     form: &Form,
 ) -> Result<Typing, TypeError>
-    requires { length scope.old.variables + depth form.now ≤ 64 }
+    requires levels { length scope.old.variables + depth form.now ≤ 64 }
     ensures value { Answers (spec.typed form.now scope.old) result }
     ensures kept { OnOk result (scope.new ≡ scope.old) }
 {
@@ -148,7 +107,11 @@ pub fn typed(
         Form::Not(form) => Ok(Typing::Not(held(alloc, scope, form.get())?)),
         Form::And(members) => Ok(Typing::And(each(alloc, scope, members.as_slice())?)),
         Form::Or(members) => Ok(Typing::Or(each(alloc, scope, members.as_slice())?)),
-        Form::Implies(left, right) => implies(alloc, scope, left.get(), right.get()),
+        Form::Implies(left, right) => {
+            let left = held(alloc, scope, left.get())?;
+            let right = held(alloc, scope, right.get())?;
+            Ok(Typing::Implies(left, right))
+        }
         Form::All { var, group, form } => {
             let depth = scope.depth();
             let (group, form) = over_group(alloc, scope, var, group, form.get())?;
@@ -173,7 +136,19 @@ pub fn typed(
             of,
             yes,
             no,
-        } => conditional(alloc, scope, var, *side, of, yes.get(), no.get()),
+        } => {
+            scope.check_new(var)?;
+            let of = scope.who(of)?;
+            let yes = within(alloc, scope, Bound::Route, var, yes.get())?;
+            let no = held(alloc, scope, no.get())?;
+            Ok(Typing::If {
+                var: scope.depth(),
+                side: *side,
+                of,
+                yes,
+                no,
+            })
+        }
         Form::Stands { side, of } => Ok(Typing::Stands {
             side: *side,
             of: scope.who(of)?,

@@ -22,7 +22,7 @@ use Rattle.nr_spec_typing.specs.declared.name.Declared.{Declared}
 use Rattle.nr_spec_typing.specs.declared.text.Neighbour.{Neighbour}
 use Rattle.nr_spec_typing.specs.declared.text.Promise.{Promise}
 use Rattle.nr_spec_typing.specs.Scopes.{Scope, meaning}
-use Rattle.nr_spec_typing.specs.Steps.{◌<$>◌, all_of}
+use Rattle.nr_spec_typing.specs.Steps.{◌<$>◌, all_of, in_turn}
 use Rattle.nr_spec_typing.specs.Forms.{typed}
 
 -- what a well typed text says
@@ -117,17 +117,16 @@ member_by place before _ = Err place
 abbrev pub member : List Declared → List ℕ → Name → Result ℕ ℕ
 member names before name = member_by name.span.from before (meaning names name.word)
 
--- the members, with the numbers of those before
-unfoldable pub members_from : List Declared → List ℕ → List Name → Result (List ℕ) ℕ
-members_from names before [] = Ok before
-members_from names before (name ∷ members) = do
-  n ← member names before name
-  members_from names (before ++ n ∷ []) members
+abbrev pub add_member : List Declared → List ℕ → Name → Result (List ℕ) ℕ
+add_member names before name = (λ n. before ++ n ∷ []) <$> member names before name
+
+abbrev pub members : List Declared → List Name → Result (List ℕ) ℕ
+members names texts = in_turn (add_member names) [] texts
 
 unfoldable pub group : Known → Name → List Name → Result Known ℕ
-group k name members = do
+group k name texts = do
   called ← wants (is_new k.names name && nat_lt (count_by is_group k.names) 64) name.span.from name
-  numbers ← members_from k.names [] members
+  numbers ← members k.names texts
   Ok (record k { names = declare k.names called (named.Group numbers) })
 
 -- ---- sets of prefixes
@@ -178,11 +177,8 @@ declaration k (decls.Group name members) = group k name members
 declaration k (decls.Define name patterns) = define k name patterns
 declaration k (decls.Promise name grace at form) = promise k name grace at form
 
-unfoldable pub declarations : Known → List Decl → Result Known ℕ
-declarations k [] = Ok k
-declarations k (d ∷ decls) = do
-  next ← declaration k d
-  declarations next decls
+abbrev pub declarations : List Decl → Result Known ℕ
+declarations decls = in_turn declaration nothing decls
 
 -- a missing `network` or `commit` is a fault at the end of the text
 abbrev pub whole_by : ℕ → Known → Option ℕ → Option ℕ → Result TypedText ℕ
@@ -194,5 +190,5 @@ whole end k = whole_by end k k.network k.commit
 
 unfoldable pub typed_text : File → Result TypedText ℕ
 typed_text file = do
-  known ← declarations nothing file.decls
+  known ← declarations file.decls
   whole file.end known

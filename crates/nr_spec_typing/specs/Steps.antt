@@ -15,3 +15,10 @@ all_of f (x ∷ xs) = do
   first ← f x
   others ← all_of f xs
   Ok (first ∷ others)
+
+-- what each makes of what was there before it, one after another
+unfoldable pub in_turn : {A S : Type 0} → (S → A → Result S ℕ) → S → List A → Result S ℕ
+in_turn step s [] = Ok s
+in_turn step s (x ∷ xs) = do
+  next ← step s x
+  in_turn step next xs
