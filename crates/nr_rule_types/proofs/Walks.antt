@@ -4,7 +4,7 @@ use Rattle.std.proofs.Math.Seq.{drop-cons}
 use Rattle.std.proofs.Math.ListN.{drop_of_length-le}
 use Rattle.std.proofs.lemmas.List.{append-nil}
 use Rattle.nr_spec_wire.specs.Reading.{◌>>=◌}
-use Rattle.nr_spec_typing.specs.Steps.{all_of, in_turn}
+use Rattle.nr_spec_typing.specs.Steps.{◌<$>◌, all_of, in_turn}
 use Rattle.nr_rule_types.specs.declared.fault.TypeError.{TypeError}
 use Rattle.nr_rule_types.specs.declared.fault.TypeError.TheVariants.{At, Memory}
 use Rattle.nr_rule_types.specs.Views.{Fails}
@@ -81,3 +81,8 @@ pub way_done : {A S : Type 0} {step : S → A → Result S ℕ} {start : S} {xs 
     → length xs ≤ i → in_turn step start xs ≡ Ok now
 unfolding in_turn
 way_done {xs = xs} h le = sym (rw (drop_of_length-le xs le) at h.same)
+
+-- this of what wasn't found
+pub mapped_fails : {A B : Type 0} (f : A → B) (read : Result A ℕ) (e : TypeError) → Fails read e → Fails (f <$> read) e
+mapped_fails f read Memory h = tt
+mapped_fails f read (At place) h = ap (λ r. f <$> r) h

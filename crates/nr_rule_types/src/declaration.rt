@@ -1,7 +1,7 @@
 //! Declarations, one behind another.
 
 ghost use Rattle.std.specs.Prelude.{◌≡◌, ◌≤◌, map, true, IfOk, IfErr};
-ghost use Rattle.std.specs.List.{All};
+ghost use Rattle.std.specs.List.{All, list_any};
 ghost use Rattle.nr_rule_syntax.specs.Nesting.{depth, IsNested};
 ghost use Rattle.nr_spec_typing.specs.Declarations as spec;
 ghost use Rattle.nr_spec_typing.specs.Steps.{all_of};
@@ -14,7 +14,7 @@ use crate::names::Names;
 use crate::scope::Scope;
 use nr_chain::Digest;
 use nr_prefix::{Pattern, Prefix};
-use nr_rule_syntax::{Decl, File, Form, Name, Num, PatternText, PrefixText, RootText, Word};
+use nr_rule_syntax::{Decl, Form, Name, Num, PatternText, PrefixText, RootText, Word};
 use nr_spec_rules::Span;
 use nr_spec_typing::{Named, Neighbour, Promise, Shared};
 use sqlite_items::Items;
@@ -109,6 +109,13 @@ fn is_like(asn: &Num, addr: &Num, key: &Option<(RootText, Num)>, n: &Neighbour) 
     n.asn == asn.value && (n.addr == addr.value || same_number(&n.key, key))
 }
 
+// An earlier neighbour is like it.
+fn has_like(earlier: &[Neighbour], asn: &Num, addr: &Num, key: &Option<(RootText, Num)>) -> bool
+    ensures { result ≡ list_any (spec.is_like asn.now addr.now key.now) earlier.now }
+{
+    earlier.iter().any(|n| is_like(asn, addr, key, n))
+}
+
 // A name that is new, of one of 256 at most, and no earlier one is like it.
 fn is_neighbour_name(
     known: &Known<'_>,
@@ -122,7 +129,7 @@ fn is_neighbour_name(
     let earlier = known.neighbours.as_slice();
     known.names.is_new(name)
         && earlier.len() < MOST_NEIGHBOURS
-        && !earlier.iter().any(|n| is_like(asn, addr, key, n))
+        && !has_like(earlier, asn, addr, key)
 }
 
 // The root of a key and its number.
@@ -225,7 +232,7 @@ fn declared<'a>(
     name: &'a Name,
     means: Named,
 ) -> Result<Known<'a>, TypeError>
-    requires { spec.is_new known.entry.names name.now ≡ true }
+    requires { spec.is_new known.names name.now ≡ true }
     ensures value { IfOk result (λ k. k ≡ record known.entry { names = spec.declare known.entry.names name.now means }) }
     ensures memory { IfErr result (λ e. e ≡ Memory) }
 {
@@ -299,8 +306,11 @@ fn define<'a>(
 fn prefixes(alloc: Global, texts: &[PrefixText]) -> Result<Items<Prefix>, AllocError>
     ensures { IfOk result (λ prefixes. prefixes ≡ map (λ p. p.prefix) texts.now) }
 {
-    let prefixes = texts.iter().map(|text| text.prefix).collect(alloc)?;
-    Ok(Items::from_vec(prefixes))
+    let mut prefixes = Items::new(alloc);
+    for text in texts {
+        prefixes.push(text.prefix)?;
+    }
+    Ok(prefixes)
 }
 
 // The prefixes after `at`, 1,024 at most.
@@ -385,9 +395,9 @@ fn declaration<'a>(
 }
 
 /// What the declarations of a text say.
-pub fn declarations<'a>(alloc: Global, file: &'a File) -> Result<Known<'a>, TypeError>
-    requires { All IsNested file.now.decls }
-    ensures { Answers (spec.declarations file.now.decls) result }
+pub fn declarations<'a>(alloc: Global, decls: &'a [Decl]) -> Result<Known<'a>, TypeError>
+    requires { All IsNested decls.now }
+    ensures { Answers (spec.declarations decls.now) result }
 {
     let mut known = Known {
         network: None,
@@ -396,7 +406,7 @@ pub fn declarations<'a>(alloc: Global, file: &'a File) -> Result<Known<'a>, Type
         neighbours: Items::new(alloc),
         promises: Items::new(alloc),
     };
-    for decl in file.decls.as_slice() {
+    for decl in decls {
         known = declaration(alloc, known, decl)?;
     }
     Ok(known)

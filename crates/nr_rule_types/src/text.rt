@@ -93,7 +93,7 @@ pub fn check(alloc: Global, file: &File) -> Result<Typed, TypeError>
         neighbours,
         promises,
         ..
-    } = declarations(alloc, file)?;
+    } = declarations(alloc, file.decls.as_slice())?;
     match (network, commit) {
         (Some(network), Some(commit)) => Ok(Typed {
             network,
