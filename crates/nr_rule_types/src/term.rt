@@ -1,0 +1,62 @@
+//! Numbers, and the formulas that hold no formula.
+
+ghost use Rattle.nr_spec_typing.specs.Forms as spec;
+ghost use Rattle.nr_rule_types.specs.Views.{Answers};
+
+use crate::fault::TypeError;
+use crate::scope::Scope;
+use nr_rule_syntax::{Cmp, Name, Term};
+use nr_spec_typing::{Typing, Value};
+
+/// A number.
+pub fn value(scope: &Scope<'_, '_>, term: &Term) -> Result<Value, TypeError>
+    ensures { Answers (spec.value scope.now term.now) result }
+{
+    match term {
+        Term::Number(n) => Ok(Value::Number(n.value)),
+        Term::Bits => Ok(Value::Bits),
+        Term::Length(of) => Ok(Value::Length(scope.route(of)?)),
+        Term::Med(of) => Ok(Value::Med(scope.route(of)?)),
+        Term::Pref(of) => Ok(Value::Pref(scope.route(of)?)),
+        Term::Origin(of) => Ok(Value::Origin(scope.route(of)?)),
+        Term::First(of) => Ok(Value::First(scope.route(of)?)),
+        Term::Last(of) => Ok(Value::Last(scope.route(of)?)),
+        Term::Hop(of) => Ok(Value::Hop(scope.route(of)?)),
+        Term::Asn(of) => Ok(Value::Asn(scope.who(of)?)),
+    }
+}
+
+/// `NAME crosses Term`
+#[tactic(auto, unfolding(nr_spec_typing::specs::Forms::crosses))]
+pub fn crosses(scope: &Scope<'_, '_>, var: &Name, term: &Term) -> Result<Typing, TypeError>
+    ensures { Answers (spec.crosses var.now term.now scope.now) result }
+{
+    let route = scope.route(var)?;
+    let term = value(scope, term)?;
+    Ok(Typing::Crosses { route, term })
+}
+
+/// `NAME is NAME`
+#[tactic(auto, unfolding(nr_spec_typing::specs::Forms::is_same))]
+pub fn is_same(scope: &Scope<'_, '_>, left: &Name, right: &Name) -> Result<Typing, TypeError>
+    ensures { Answers (spec.is_same left.now right.now scope.now) result }
+{
+    let left = scope.who(left)?;
+    let right = scope.who(right)?;
+    Ok(Typing::Is { left, right })
+}
+
+/// `Term Cmp Term`
+#[tactic(auto, unfolding(nr_spec_typing::specs::Forms::compared))]
+pub fn compared(
+    scope: &Scope<'_, '_>,
+    left: &Term,
+    op: Cmp,
+    right: &Term,
+) -> Result<Typing, TypeError>
+    ensures { Answers (spec.compared left.now op right.now scope.now) result }
+{
+    let left = value(scope, left)?;
+    let right = value(scope, right)?;
+    Ok(Typing::Compare { left, op, right })
+}

@@ -1,0 +1,114 @@
+-- What a well typed text guarantees, so that whether its formulas hold can always be told: each variable is
+-- bound around its place and stands for what is asked of it, and each number is in its range.
+use Rattle.std.specs.Prelude.{◌≡◌, ℕ, ◌+◌, ◌<◌, ◌≤◌, max, Bool, true, false, ◌&&◌, ◌==◌, List, [], ◌∷◌, ◌++◌, map, length, slice_get, nat_lt, nat_le, Option, Some, None, IfSome, IsTrue}
+use Rattle.std.specs.List.{All, list_all}
+use Rattle.nr_chain.specs.declared.digest.Digest.{Digest}
+use Rattle.nr_prefix.specs.declared.set.Pattern.{Pattern}
+use Rattle.nr_rule_syntax.specs.Nesting.{Measured, levels_within, most_within, flat}
+use Rattle.nr_spec_typing.specs.declared.name.Bound.{Bound}
+use Rattle.nr_spec_typing.specs.declared.name.Bound.TheVariants.{Neighbour, Route}
+use Rattle.nr_spec_typing.specs.declared.name.Variable.{Variable}
+use Rattle.nr_spec_typing.specs.declared.text.Neighbour as texts
+use Rattle.nr_spec_typing.specs.declared.text.Promise.{Promise}
+use Rattle.nr_spec_typing.specs.declared.tree.Who.{Who}
+use Rattle.nr_spec_typing.specs.declared.tree.Who.TheVariants.{Var, Named}
+use Rattle.nr_spec_typing.specs.declared.tree.Value.{Value}
+use Rattle.nr_spec_typing.specs.declared.tree.Value.TheVariants as values
+use Rattle.nr_spec_typing.specs.declared.tree.Typing.{Typing}
+use Rattle.nr_spec_typing.specs.declared.tree.Typing.TheOpen.{Typing-F}
+use Rattle.nr_spec_typing.specs.declared.tree.Typing.TheFolds.{fold-Typing}
+use Rattle.nr_spec_typing.specs.Scopes.{same_bound}
+use Rattle.nr_spec_typing.specs.Declarations.{TypedText, most_seconds}
+
+-- ---- what the variables at a place stand for, the outermost first
+
+abbrev pub stands_for : Bound → Option Bound → Bool
+stands_for bound None = false
+stands_for bound (Some found) = same_bound found bound
+
+abbrev pub is_variable : Bound → List Bound → ℕ → Bool
+is_variable bound around n = stands_for bound (slice_get around n)
+
+-- one of the neighbours, of which there are so many
+abbrev pub is_who : ℕ → List Bound → Who → Bool
+is_who count around (Var n) = is_variable Neighbour around n
+is_who count around (Named n) = nat_lt n count
+
+abbrev pub is_value : ℕ → List Bound → Value → Bool
+is_value count around (values.Number n) = true
+is_value count around values.Bits = true
+is_value count around (values.Length n) = is_variable Route around n
+is_value count around (values.Med n) = is_variable Route around n
+is_value count around (values.Pref n) = is_variable Route around n
+is_value count around (values.Origin n) = is_variable Route around n
+is_value count around (values.First n) = is_variable Route around n
+is_value count around (values.Last n) = is_variable Route around n
+is_value count around (values.Hop n) = is_variable Route around n
+is_value count around (values.Asn of) = is_who count around of
+
+abbrev pub are_neighbours : ℕ → List ℕ → Bool
+are_neighbours count members = list_all (λ n. nat_lt n count) members
+
+-- a variable's number is how many are bound outside it, and at most 64 are bound at a place
+abbrev pub is_next : List Bound → ℕ → Bool
+is_next around var = var == length around && nat_lt var 64
+
+abbrev pub Fitting : Type 0
+Fitting = List Bound → Bool
+
+-- a formula fits its place, where those that it holds fit theirs
+abbrev pub fits_step : ℕ → Typing-F Fitting → Fitting
+fits_step count Typing-F.True = λ around. true
+fits_step count Typing-F.False = λ around. true
+fits_step count (Typing-F.Not held) = held
+fits_step count (Typing-F.And members) = λ around. list_all (λ member. member around) members
+fits_step count (Typing-F.Or members) = λ around. list_all (λ member. member around) members
+fits_step count (Typing-F.Implies left right) = λ around. left around && right around
+fits_step count (Typing-F.All var group form) = λ around. is_next around var && are_neighbours count group && form (around ++ Neighbour ∷ [])
+fits_step count (Typing-F.Some var group form) = λ around. is_next around var && are_neighbours count group && form (around ++ Neighbour ∷ [])
+fits_step count (Typing-F.If var side of yes_ no_) = λ around. is_next around var && is_who count around of && yes_ (around ++ Route ∷ []) && no_ around
+fits_step count (Typing-F.Stands side of) = λ around. is_who count around of
+fits_step count (Typing-F.Has route community) = λ around. is_variable Route around route
+fits_step count (Typing-F.Crosses route term) = λ around. is_variable Route around route && is_value count around term
+fits_step count (Typing-F.Is left right) = λ around. is_who count around left && is_who count around right
+fits_step count (Typing-F.PrefixIn patterns) = λ around. true
+fits_step count (Typing-F.Compare left op right) = λ around. is_value count around left && is_value count around right
+
+abbrev pub fits : ℕ → Typing → Fitting
+fits count = fold-Typing Fitting (fits_step count)
+
+-- ---- how deep it nests, as in its text
+
+abbrev pub measured_step : Typing-F Measured → Measured
+measured_step (Typing-F.Not held) = record { binds = 3; levels = levels_within 3 held + 1 }
+measured_step (Typing-F.And members) = record { binds = 2; levels = most_within 3 members }
+measured_step (Typing-F.Or members) = record { binds = 1; levels = most_within 2 members }
+measured_step (Typing-F.Implies left right) = record { binds = 0; levels = max (levels_within 1 left) (right.levels + 1) }
+measured_step (Typing-F.All var group form) = record { binds = 3; levels = form.levels + 1 }
+measured_step (Typing-F.Some var group form) = record { binds = 3; levels = form.levels + 1 }
+measured_step (Typing-F.If var side of then_ else_) = record { binds = 3; levels = max then_.levels else_.levels + 1 }
+measured_step _ = flat
+
+abbrev pub measured : Typing → Measured
+measured = fold-Typing Measured measured_step
+
+-- ---- a whole text
+
+-- a promise of a text with so many neighbours
+pub record IsPromise (count : ℕ) (p : Promise) : Type 0 where
+  pub grace : p.grace ≤ most_seconds
+  pub places : length p.at ≤ 1024
+  pub fits : fits count p.form [] ≡ true
+  pub nests : (measured p.form).levels ≤ 64
+
+-- the number of a neighbour's key is one of a neighbour
+abbrev pub IsKeyNumber : Option (Digest × ℕ) → Type 0
+IsKeyNumber None = Unit {0}
+IsKeyNumber (Some key) = key.1 < 256
+
+pub record IsTyped (t : TypedText) : Type 0 where
+  pub commit : t.commit ≤ most_seconds
+  pub neighbours : length t.neighbours ≤ 256
+  pub keys : All (λ n. IsKeyNumber n.key) t.neighbours
+  pub promises : length t.promises ≤ 256
+  pub formulas : All (IsPromise (length t.neighbours)) t.promises

@@ -1,0 +1,6 @@
+pub mod Declarations
+pub mod Forms
+pub mod Guarantees
+pub mod Meaning
+pub mod Scopes
+pub mod Steps

@@ -1,0 +1,14 @@
+//! What has to be believed about the meaning of a text of promises: what its names stand for, when it is
+//! well typed, and when a formula holds. The definitions stand in `specs/`; the code is the types of what a
+//! well typed text says.
+#![tactic(auto)]
+
+mod name;
+mod shared;
+mod text;
+mod tree;
+
+pub use name::{Bound, Declared, Named, Variable};
+pub use shared::Shared;
+pub use text::{Neighbour, Promise};
+pub use tree::{Typing, Value, Who};
