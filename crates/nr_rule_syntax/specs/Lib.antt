@@ -3,3 +3,4 @@ pub mod Nests
 pub mod Printing
 pub mod Reading
 pub mod Views
+pub mod Written

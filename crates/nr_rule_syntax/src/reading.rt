@@ -5,6 +5,7 @@ ghost use Rattle.std.specs.List.{All};
 ghost use Rattle.nr_rule_syntax.specs.Nesting.{IsNested};
 ghost use Rattle.nr_rule_syntax.specs.Reading.{file_of};
 ghost use Rattle.nr_rule_syntax.specs.Views.{Answers};
+ghost use Rattle.nr_rule_syntax.specs.Written.{IsWritten};
 
 use crate::declaration::declarations;
 use crate::fault::ParseError;
@@ -20,6 +21,9 @@ pub fn parse(alloc: Global, text: &[u8]) -> Result<File, ParseError>
     ensures value { Answers (file_of text.now) result }
     // Each formula nests at most 64 levels.
     ensures nests { IfOk result (λ file. All IsNested file.decls) }
+    // Names are written as names, numbers have 32 bits, prefixes are masked, a list that is written has a
+    // member, and an `and` or `or` has two or more.
+    ensures written { IfOk result (λ file. All IsWritten file.decls) }
 {
     let mut tokens = Tokens::new(text);
     let decls = declarations(alloc, &mut tokens)?;

@@ -1,0 +1,17 @@
+mod Words
+mod Gives
+mod Chains
+mod Figures
+mod Texts
+mod Parts
+mod Returns
+mod Formulas
+mod Declarations
+mod Files
+mod Shows
+mod FigureKinds
+mod Keywords
+mod Spells
+mod SpellsForms
+mod SpellsFiles
+mod Back
