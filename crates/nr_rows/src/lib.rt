@@ -17,4 +17,6 @@ mod promises;
 #[cfg(test)]
 mod routes;
 #[cfg(test)]
+mod typing;
+#[cfg(test)]
 mod words;
