@@ -1,5 +1,5 @@
 -- What cutting, writing and syncing leave of the files, one call behind another.
-use Rattle.std.proofs.Common.{◌≡◌, ℕ, ◌+◌, List, [], ◌++◌, length, take, drop, Option, Some, None, Result, Ok, Err, OnOk, IsErrOf, refl, sym, ap, subst, ◌∙◌, inl, inr, arith}
+use Rattle.std.proofs.Common.{◌≡◌, ℕ, ◌+◌, List, [], ◌++◌, length, Option, Some, None, Result, Ok, Err, OnOk, IsErrOf, refl, sym, ap, subst, ◌∙◌, inl, inr, arith}
 use Rattle.std.proofs.lemmas.List.{append-nil, drop_all}
 use Rattle.std.proofs.Math.Seq.{drop-nil}
 use Rattle.nr_ports.specs.Ports.{Contents, ChangesOnly, Torn, TornCut, TornWrite, bytes_of, written, cut_to}

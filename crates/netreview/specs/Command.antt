@@ -1,10 +1,10 @@
 -- What the program answers: from its words and what the files hold to a status and a text.
-use Rattle.std.specs.Prelude.{ℕ, nat_le, if◌then◌else◌, List, [], ◌∷◌, ◌++◌, length, Option, None, Some, Result, Ok, Err, codes}
+use Rattle.std.specs.Prelude.{ℕ, nat_le, if◌then◌else◌, List, [], ◌∷◌, length, Option, None, Some, Result, Ok, Err, codes}
 use Rattle.std.specs.Fmt.{decimal}
 use Rattle.hex.specs.Hex.{encode_lower}
 use Rattle.nr_spec_wire.specs.Reading.{◌>>=◌}
 use Rattle.nr_spec_log.specs.Authenticator.{Authenticator, auths_of}
-use Rattle.nr_spec_log.specs.Answer.{AnswerFile, answer_of}
+use Rattle.nr_spec_log.specs.Answer.{answer_of}
 use Rattle.nr_spec_history.specs.KeyFiles.{Key, seed_of, key_file, key_root}
 use Rattle.nr_spec_history.specs.Report.{Fact, Form, Unsigned, Head, Short, outcome, line, report_text}
 use Rattle.nr_ports.specs.Ports.{Contents}

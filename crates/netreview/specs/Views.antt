@@ -1,6 +1,5 @@
 -- What this crate's types stand for in the definitions.
-use Rattle.std.specs.Prelude.{◌≡◌, ◌≢◌, ℕ, List, ◌∷◌, ◌++◌, Result, Ok, Err}
-use Rattle.nr_spec_log.specs.Chain as chain
+use Rattle.std.specs.Prelude.{◌≡◌, ◌≢◌, ℕ, List, Result, Ok, Err}
 use Rattle.nr_spec_history.specs.Report as report
 use Rattle.nr_lamport.specs.declared.seed.Seed.{Seed}
 use Rattle.nr_ports.specs.Ports.{Rose}

@@ -57,11 +57,7 @@ fn root_line(alloc: Global, root: &Digest) -> Result<String, AllocError>
 
 // The ending of a key.
 #[tactic(auto, unfolding(crate::specs::Command::key_ending))]
-fn key_ending(
-    alloc: Global,
-    request: &KeygenRequest<'_>,
-    seed: &Seed,
-) -> Result<Ending, Memory>
+fn key_ending(alloc: Global, request: &KeygenRequest<'_>, seed: &Seed) -> Result<Ending, Memory>
     ensures value { IfOk result (λ e. ending_of e ≡ key_ending (key_of request.now seed.now)) }
     ensures status { IfOk result (λ e. e.status ≡ 0) }
 {

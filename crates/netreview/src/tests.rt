@@ -44,12 +44,7 @@ fn digest_of(alloc: Global, text: &str) -> Result<[u8; 32], Fail> {
 }
 
 // Signs a body with leaf 1 of the seed's tree of height 1.
-fn put_signature(
-    alloc: Global,
-    seed: &Seed,
-    out: &mut Vec<u8>,
-    body: &[u8],
-) -> Result<(), Memory> {
+fn put_signature(alloc: Global, seed: &Seed, out: &mut Vec<u8>, body: &[u8]) -> Result<(), Memory> {
     let tree = Tree::build(alloc, seed, 1)?;
     tree.sign(seed, 1, body, out)
 }
@@ -274,7 +269,10 @@ fn names_the_first_malformed_field_of_authenticators(rt: HostRuntime) -> Result<
 // Whether an audit of the smallest answer, changed at one byte, is refused by this line.
 fn refuses_change(alloc: Global, at: usize, value: u8, text: &str) -> Result<bool, Fail> {
     let mut files = row_files(alloc)?;
-    files.put("a", changed(alloc, &smallest(alloc)?, at, value)?.as_slice())?;
+    files.put(
+        "a",
+        changed(alloc, &smallest(alloc)?, at, value)?.as_slice(),
+    )?;
     let words = audit_words(alloc, "0", "0")?;
     Ok(gives(alloc, words.as_slice(), &mut files, 7, text))
 }
@@ -455,7 +453,15 @@ fn keygen_takes_a_seed_of_32_bytes(rt: HostRuntime) -> Result<(), Fail> {
     }
     let words = keygen_words(alloc, "64500", "1")?;
     let mut none = MemFiles::new(alloc);
-    assert!(rt; gives(alloc, words.as_slice(), &mut none, 7, "refused nofile seed\n"));
+    assert!(rt;
+        gives(
+            alloc,
+            words.as_slice(),
+            &mut none,
+            7,
+            "refused nofile seed\n"
+        )
+    );
     assert_eq!(rt; none.calls(), 1);
     Ok(())
 }

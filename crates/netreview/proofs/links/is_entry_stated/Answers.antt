@@ -1,4 +1,4 @@
-use Rattle.std.proofs.Common.{◌≡◌, ◌-◌, sym, ap, ◌∙◌, arith, length, get_or, List}
+use Rattle.std.proofs.Common.{◌-◌, sym, ap, ◌∙◌, arith, length, get_or, List}
 use Rattle.std.proofs.lemmas.List.{length-map}
 use Rattle.std.proofs.Math.ListN.{get_or-map}
 use Rattle.nr_spec_history.specs.Conflicts.{is_stated}

@@ -1,4 +1,4 @@
-use Rattle.std.proofs.Common.{◌≡◌, ◌++◌, sym, subst, ◌∙◌, List}
+use Rattle.std.proofs.Common.{sym, subst, ◌∙◌, List}
 use Rattle.std.specs.Prelude.{map}
 use Rattle.std.proofs.lemmas.List.{append-nil}
 use Rattle.nr_spec_log.specs.Chain.{Link}

@@ -1,4 +1,4 @@
-use Rattle.std.proofs.Common.{◌≡◌, sym, ap, ◌∙◌, arith}
+use Rattle.std.proofs.Common.{sym, ◌∙◌, arith}
 use Rattle.netreview.specs.Views.{input_of}
 use Rattle.netreview.proofs.InputLemmas.{present-within}
 use Rattle.netreview.proofs.reading.read_input.Goals as goal

@@ -1,4 +1,4 @@
-use Rattle.std.proofs.Common.{◌≡◌, Some, sym, subst, ◌∙◌, Option}
+use Rattle.std.proofs.Common.{Some, sym, subst, ◌∙◌, Option}
 use Rattle.nr_ports.specs.Ports.{Contents, ChangesOnly}
 use Rattle.netreview.specs.Running.{IsLeft}
 use Rattle.netreview.proofs.WritingLemmas.{Is, changes_again, cut_to-none, left_by_cut, left_by_write, left_whole, writes_whole, on_ok}
