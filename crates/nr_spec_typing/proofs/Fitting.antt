@@ -33,7 +33,7 @@ use Rattle.nr_spec_typing.specs.declared.tree.Typing.TheVariants as typings
 use Rattle.nr_spec_typing.specs.Steps.{◌<$>◌, all_of}
 use Rattle.nr_spec_typing.specs.Scopes.{Scope, meaning, same_bound, is_called, variable, who_by, who, route_by, route, group_by, group, set_by, set, is_fresh, new_variable, bind}
 use Rattle.nr_spec_typing.specs.Forms.{Typer, typed_step, typed, each, value, implies, over_group, conditional, crosses, is_same, compared}
-use Rattle.nr_spec_typing.specs.Guarantees.{stands_for, is_variable, is_who, is_value, are_neighbours, is_next, Fitting, fits_step, fits, measured_step, measured}
+use Rattle.nr_spec_typing.specs.Guarantees.{stands_for, is_variable, is_who, is_value, are_neighbours, is_pattern, is_next, Fitting, fits_step, fits, measured_step, measured}
 
 -- ---- what was found, from what it was made of
 
@@ -51,19 +51,19 @@ passed false place x y h = cc
 
 -- ---- tests
 
-both : (a b : Bool) → a ≡ true → b ≡ true → a && b ≡ true
+pub both : (a b : Bool) → a ≡ true → b ≡ true → a && b ≡ true
 both true b h k = k
 both false b h k = cc
 
-left : (a b : Bool) → a && b ≡ true → a ≡ true
+pub left : (a b : Bool) → a && b ≡ true → a ≡ true
 left true b h = refl
 left false b h = cc
 
-right : (a b : Bool) → a && b ≡ true → b ≡ true
+pub right : (a b : Bool) → a && b ≡ true → b ≡ true
 right true b h = h
 right false b h = cc
 
-below : (n count : ℕ) → n < count → nat_lt n count ≡ true
+pub below : (n count : ℕ) → n < count → nat_lt n count ≡ true
 below n count h = grind (arith, nat_tests)
 
 next_fits : (n : ℕ) → n < 64 → (n == n) && nat_lt n 64 ≡ true
@@ -74,11 +74,11 @@ next_fits n h = grind (arith, nat_tests)
 abbrev pub kinds : List Variable → List Bound
 kinds variables = map (λ v. v.bound) variables
 
--- a neighbour's number is below this, and so are those of a group
+-- a neighbour's number is below this, and so are those of a group; patterns are in their range
 abbrev pub IsWithin : ℕ → Named → Type 0
 IsWithin count (named.Neighbour n) = n < count
 IsWithin count (named.Group members) = are_neighbours count members ≡ true
-IsWithin count (named.Define patterns) = Unit {0}
+IsWithin count (named.Define patterns) = list_all is_pattern patterns ≡ true
 IsWithin count named.Promise = Unit {0}
 
 abbrev pub AreWithin : ℕ → List Declared → Type 0
@@ -147,6 +147,18 @@ group_fits : (count : ℕ) (s : Scope) (name : Name) (members : List ℕ) → Ar
 unfolding group
 group_fits count s name members within h =
     group_fits_by count name.span.from (meaning s.names name.word) members (λ x e. meaning_within count s.names name.word x within e) h
+
+set_fits_by : (count place : ℕ) (m : Option Named) (patterns : List Pattern) → ((x : Named) → m ≡ Some x → IsWithin count x) → set_by place m ≡ Ok patterns → list_all is_pattern patterns ≡ true
+set_fits_by count place None patterns d h = cc
+set_fits_by count place (Some (named.Neighbour n)) patterns d h = cc
+set_fits_by count place (Some (named.Group members)) patterns d h = cc
+set_fits_by count place (Some (named.Define found)) patterns d h = let e : found ≡ patterns = cc in subst (λ l. list_all is_pattern l ≡ true) e (d (named.Define found) refl)
+set_fits_by count place (Some named.Promise) patterns d h = cc
+
+set_fits : (count : ℕ) (s : Scope) (name : Name) (patterns : List Pattern) → AreWithin count s.names → set s name ≡ Ok patterns → list_all is_pattern patterns ≡ true
+unfolding set
+set_fits count s name patterns within h =
+    set_fits_by count name.span.from (meaning s.names name.word) patterns (λ x e. meaning_within count s.names name.word x within e) h
 
 of_route : (count : ℕ) (s : Scope) (name : Name) (make : ℕ → Value) (x : Value)
     → ((n : ℕ) → is_value count (kinds s.variables) (make n) ≡ is_variable Route (kinds s.variables) n)
@@ -408,7 +420,7 @@ good_is count one other = record { good = λ s t w l h.
 good_prefix : (count : ℕ) (name : Name) → IsGoodTyper count (typed_step (Form-F.PrefixIn name)) flat
 good_prefix count name = record { good = λ s t w l h.
     let p = mapped (λ x. typings.PrefixIn x) (set s name) t h in
-    good_roll count (kinds s.variables) flat (Typing-F.PrefixIn p.0) t (rolls-PrefixIn p.0 ∙ p.2) refl refl;
+    good_roll count (kinds s.variables) flat (Typing-F.PrefixIn p.0) t (rolls-PrefixIn p.0 ∙ p.2) (set_fits count s name p.0 w p.1) refl;
 }
 
 good_compare : (count : ℕ) (one : Term) (op : Cmp) (other : Term) → IsGoodTyper count (typed_step (Form-F.Compare one op other)) flat
