@@ -1,5 +1,5 @@
 -- A typed formula fits its place, and nests as deep as the formula of the text.
-use Rattle.std.proofs.Common.{◌≡◌, ℕ, zero, suc, ◌+◌, ◌<◌, ◌≤◌, max, Bool, true, false, cond, ◌&&◌, ◌==◌, List, [], ◌∷◌, ◌++◌, map, length, get_or, slice_get, nat_lt, Option, Some, None, Result, Ok, Err, refl, ap, sym, subst, ◌∙◌, arith}
+use Rattle.std.proofs.Common.{◌≡◌, ℕ, zero, suc, ◌+◌, ◌<◌, ◌≤◌, max, Bool, true, false, cond, ◌&&◌, ◌==◌, List, [], ◌∷◌, ◌++◌, map, length, get_or, nat_lt, Option, Some, None, Result, Ok, Err, refl, ap, sym, subst, ◌∙◌, arith}
 use Rattle.std.proofs.lemmas.List.{map-append, length-append}
 use Rattle.std.specs.List.{list_all}
 use Rattle.std.specs.Str.{bytes_eq}
@@ -31,9 +31,9 @@ use Rattle.nr_spec_typing.specs.declared.tree.Typing.TheOpen.{Typing-F}
 use Rattle.nr_spec_typing.specs.declared.tree.Typing.TheVariants.{rolls-True, rolls-False, rolls-Not, rolls-And, rolls-Or, rolls-Implies, rolls-All, rolls-Some, rolls-If, rolls-Stands, rolls-Has, rolls-Crosses, rolls-Is, rolls-PrefixIn, rolls-Compare}
 use Rattle.nr_spec_typing.specs.declared.tree.Typing.TheVariants as typings
 use Rattle.nr_spec_typing.specs.Steps.{◌<$>◌, all_of}
-use Rattle.nr_spec_typing.specs.Scopes.{Scope, meaning, same_bound, is_called, variable, who_by, who, route_by, route, group_by, group, set_by, set, is_fresh, new_variable, bind}
+use Rattle.nr_spec_typing.specs.Scopes.{Scope, meaning, same_bound, is_called, variable, who_by, who, route_by, route, group_by, group, set_by, set, new_variable, bind}
 use Rattle.nr_spec_typing.specs.Forms.{Typer, typed_step, typed, each, value, implies, over_group, conditional, crosses, is_same, compared}
-use Rattle.nr_spec_typing.specs.Guarantees.{stands_for, is_variable, is_who, is_value, are_neighbours, is_pattern, is_next, Fitting, fits_step, fits, measured_step, measured}
+use Rattle.nr_spec_typing.specs.Guarantees.{is_variable, is_who, is_value, are_neighbours, is_pattern, is_next, Fitting, fits_step, fits, measured_step, measured}
 
 -- ---- what was found, from what it was made of
 
@@ -209,13 +209,14 @@ within_more : (least : ℕ) (m : Measured) → m.levels ≤ levels_within least 
 within_more least m = grind (arith, nat_tests)
 
 good_not : (count : ℕ) (f : Typer) (m : Measured) → IsGoodTyper count f m → IsGoodTyper count (typed_step (Form-F.Not f)) (text.measured_step (Form-F.Not m))
-good_not count f m g = record { good = λ s t w l h.
-    let p = mapped (λ x. typings.Not x) (f s) t h in
-    let more : m.levels ≤ levels_within 3 m = within_more 3 m in
-    let lev : length s.variables + m.levels ≤ 64 = omega arith in
-    let i = g.good s p.0 w lev p.1 in
-    good_roll count (kinds s.variables) (text.measured_step (Form-F.Not m)) (Typing-F.Not p.0) t (rolls-Not p.0 ∙ p.2) i.fits
-    (ap (λ (n : Measured). let r : Measured = record { binds = 3; levels = levels_within 3 n + 1 } in r) i.same);
+good_not count f m g = record {
+  good = λ s t w l h.
+      let p = mapped (λ x. typings.Not x) (f s) t h in
+      let more : m.levels ≤ levels_within 3 m = within_more 3 m in
+      let lev : length s.variables + m.levels ≤ 64 = omega arith in
+      let i = g.good s p.0 w lev p.1 in
+      good_roll count (kinds s.variables) (text.measured_step (Form-F.Not m)) (Typing-F.Not p.0) t (rolls-Not p.0 ∙ p.2) i.fits
+      (ap (λ (n : Measured). let r : Measured = record { binds = 3; levels = levels_within 3 n + 1 } in r) i.same);
 }
 
 -- ---- the members of a chain
@@ -249,44 +250,48 @@ each_good count least (f ∷ fs) (m ∷ ms) s ts g w l h =
     let rest : length s.variables + most_within least ms ≤ 64 = omega arith in
     let i = g.0.good s p.0 w one p.1 in
     let r = each_good count least fs ms s q.0 g.1 w rest q.1 in
-    subst (λ ts. AreFit count (kinds s.variables) (m ∷ ms) ts) e
-    (both (fits count p.0 (kinds s.variables)) (list_all (λ member. member (kinds s.variables)) (map (fits count) q.0)) i.fits r.0,
-      cons_same (measured p.0) m (map measured q.0) ms i.same r.1)
+    subst (λ ts. AreFit count (kinds s.variables) (m ∷ ms) ts) e (
+      both (fits count p.0 (kinds s.variables)) (list_all (λ member. member (kinds s.variables)) (map (fits count) q.0)) i.fits r.0,
+      cons_same (measured p.0) m (map measured q.0) ms i.same r.1,
+    )
 
 good_and : (count : ℕ) (fs : List Typer) (ms : List Measured) → AreGoodTypers count fs ms → IsGoodTyper count (typed_step (Form-F.And fs)) (text.measured_step (Form-F.And ms))
-good_and count fs ms g = record { good = λ s t w l h.
-    let p = mapped (λ x. typings.And x) (each fs s) t h in
-    let r = each_good count 3 fs ms s p.0 g w l p.1 in
-    good_roll count (kinds s.variables) (text.measured_step (Form-F.And ms)) (Typing-F.And p.0) t (rolls-And p.0 ∙ p.2) r.0
-    (ap (λ (ns : List Measured). let r : Measured = record { binds = 2; levels = most_within 3 ns } in r) r.1);
+good_and count fs ms g = record {
+  good = λ s t w l h.
+      let p = mapped (λ x. typings.And x) (each fs s) t h in
+      let r = each_good count 3 fs ms s p.0 g w l p.1 in
+      good_roll count (kinds s.variables) (text.measured_step (Form-F.And ms)) (Typing-F.And p.0) t (rolls-And p.0 ∙ p.2) r.0
+      (ap (λ (ns : List Measured). let r : Measured = record { binds = 2; levels = most_within 3 ns } in r) r.1);
 }
 
 good_or : (count : ℕ) (fs : List Typer) (ms : List Measured) → AreGoodTypers count fs ms → IsGoodTyper count (typed_step (Form-F.Or fs)) (text.measured_step (Form-F.Or ms))
-good_or count fs ms g = record { good = λ s t w l h.
-    let p = mapped (λ x. typings.Or x) (each fs s) t h in
-    let r = each_good count 2 fs ms s p.0 g w l p.1 in
-    good_roll count (kinds s.variables) (text.measured_step (Form-F.Or ms)) (Typing-F.Or p.0) t (rolls-Or p.0 ∙ p.2) r.0
-    (ap (λ (ns : List Measured). let r : Measured = record { binds = 1; levels = most_within 2 ns } in r) r.1);
+good_or count fs ms g = record {
+  good = λ s t w l h.
+      let p = mapped (λ x. typings.Or x) (each fs s) t h in
+      let r = each_good count 2 fs ms s p.0 g w l p.1 in
+      good_roll count (kinds s.variables) (text.measured_step (Form-F.Or ms)) (Typing-F.Or p.0) t (rolls-Or p.0 ∙ p.2) r.0
+      (ap (λ (ns : List Measured). let r : Measured = record { binds = 1; levels = most_within 2 ns } in r) r.1);
 }
 
 good_implies : (count : ℕ) (f g : Typer) (m n : Measured) → IsGoodTyper count f m → IsGoodTyper count g n
     → IsGoodTyper count (typed_step (Form-F.Implies f g)) (text.measured_step (Form-F.Implies m n))
 unfolding implies
-good_implies count f g m n gf gg = record { good = λ s t w l h.
-    let p = chained (λ if_. g s >>= (λ then_. Ok (typings.Implies if_ then_))) (f s) t h in
-    let q = chained (λ then_. Ok (typings.Implies p.0 then_)) (g s) t p.2 in
-    let made : Result Typing ℕ = Ok (typings.Implies p.0 q.0) in
-    let whole : made ≡ Ok t = q.2 in
-    let e : typings.Implies p.0 q.0 ≡ t = cc in
-    let more : m.levels ≤ levels_within 1 m = within_more 1 m in
-    let lev : length s.variables + m.levels ≤ 64 = omega arith in
-    let lev_right : length s.variables + n.levels ≤ 64 = omega arith in
-    let i = gf.good s p.0 w lev p.1 in
-    let j = gg.good s q.0 w lev_right q.1 in
-    good_roll count (kinds s.variables) (text.measured_step (Form-F.Implies m n)) (Typing-F.Implies p.0 q.0) t (rolls-Implies p.0 q.0 ∙ e)
-    (both (fits count p.0 (kinds s.variables)) (fits count q.0 (kinds s.variables)) i.fits j.fits)
-    (ap (λ (x : Measured). let r : Measured = record { binds = 0; levels = max (levels_within 1 x) ((measured q.0).levels + 1) } in r) i.same
-    ∙ ap (λ (x : Measured). let r : Measured = record { binds = 0; levels = max (levels_within 1 m) (x.levels + 1) } in r) j.same);
+good_implies count f g m n gf gg = record {
+  good = λ s t w l h.
+      let p = chained (λ if_. g s >>= (λ then_. Ok (typings.Implies if_ then_))) (f s) t h in
+      let q = chained (λ then_. Ok (typings.Implies p.0 then_)) (g s) t p.2 in
+      let made : Result Typing ℕ = Ok (typings.Implies p.0 q.0) in
+      let whole : made ≡ Ok t = q.2 in
+      let e : typings.Implies p.0 q.0 ≡ t = cc in
+      let more : m.levels ≤ levels_within 1 m = within_more 1 m in
+      let lev : length s.variables + m.levels ≤ 64 = omega arith in
+      let lev_right : length s.variables + n.levels ≤ 64 = omega arith in
+      let i = gf.good s p.0 w lev p.1 in
+      let j = gg.good s q.0 w lev_right q.1 in
+      good_roll count (kinds s.variables) (text.measured_step (Form-F.Implies m n)) (Typing-F.Implies p.0 q.0) t (rolls-Implies p.0 q.0 ∙ e)
+      (both (fits count p.0 (kinds s.variables)) (fits count q.0 (kinds s.variables)) i.fits j.fits)
+      (ap (λ (x : Measured). let r : Measured = record { binds = 0; levels = max (levels_within 1 x) ((measured q.0).levels + 1) } in r) i.same
+      ∙ ap (λ (x : Measured). let r : Measured = record { binds = 0; levels = max (levels_within 1 m) (x.levels + 1) } in r) j.same);
 }
 
 -- ---- variables
@@ -330,109 +335,118 @@ three a b c h i j = both (a && b) c (both a b h i) j
 
 good_all : (count : ℕ) (var among : Name) (f : Typer) (m : Measured) → IsGoodTyper count f m
     → IsGoodTyper count (typed_step (Form-F.All var among f)) (text.measured_step (Form-F.All var among m))
-good_all count var among f m g = record { good = λ s t w l h.
-    let p = mapped (λ x. typings.All (length s.variables) x.0 x.1) (over_group var among f s) t h in
-    let lev : length s.variables + m.levels < 64 = omega arith in
-    let lt : length s.variables < 64 = omega arith in
-    let o = over_good count var among f m s p.0 g w lev p.1 in
-    good_roll count (kinds s.variables) (text.measured_step (Form-F.All var among m)) (Typing-F.All (length s.variables) p.0.0 p.0.1) t
-    (rolls-All (length s.variables) p.0.0 p.0.1 ∙ p.2)
-    (three (is_next (kinds s.variables) (length s.variables)) (are_neighbours count p.0.0) (fits count p.0.1 (kinds s.variables ++ Neighbour ∷ [])) (next s.variables lt) o.0 o.1.fits)
-    (ap (λ (n : Measured). let r : Measured = record { binds = 3; levels = n.levels + 1 } in r) o.1.same);
+good_all count var among f m g = record {
+  good = λ s t w l h.
+      let p = mapped (λ x. typings.All (length s.variables) x.0 x.1) (over_group var among f s) t h in
+      let lev : length s.variables + m.levels < 64 = omega arith in
+      let lt : length s.variables < 64 = omega arith in
+      let o = over_good count var among f m s p.0 g w lev p.1 in
+      good_roll count (kinds s.variables) (text.measured_step (Form-F.All var among m)) (Typing-F.All (length s.variables) p.0.0 p.0.1) t
+      (rolls-All (length s.variables) p.0.0 p.0.1 ∙ p.2)
+      (three (is_next (kinds s.variables) (length s.variables)) (are_neighbours count p.0.0) (fits count p.0.1 (kinds s.variables ++ Neighbour ∷ [])) (next s.variables lt) o.0 o.1.fits)
+      (ap (λ (n : Measured). let r : Measured = record { binds = 3; levels = n.levels + 1 } in r) o.1.same);
 }
 
 good_some : (count : ℕ) (var among : Name) (f : Typer) (m : Measured) → IsGoodTyper count f m
     → IsGoodTyper count (typed_step (Form-F.Some var among f)) (text.measured_step (Form-F.Some var among m))
-good_some count var among f m g = record { good = λ s t w l h.
-    let p = mapped (λ x. typings.Some (length s.variables) x.0 x.1) (over_group var among f s) t h in
-    let lev : length s.variables + m.levels < 64 = omega arith in
-    let lt : length s.variables < 64 = omega arith in
-    let o = over_good count var among f m s p.0 g w lev p.1 in
-    good_roll count (kinds s.variables) (text.measured_step (Form-F.Some var among m)) (Typing-F.Some (length s.variables) p.0.0 p.0.1) t
-    (rolls-Some (length s.variables) p.0.0 p.0.1 ∙ p.2)
-    (three (is_next (kinds s.variables) (length s.variables)) (are_neighbours count p.0.0) (fits count p.0.1 (kinds s.variables ++ Neighbour ∷ [])) (next s.variables lt) o.0 o.1.fits)
-    (ap (λ (n : Measured). let r : Measured = record { binds = 3; levels = n.levels + 1 } in r) o.1.same);
+good_some count var among f m g = record {
+  good = λ s t w l h.
+      let p = mapped (λ x. typings.Some (length s.variables) x.0 x.1) (over_group var among f s) t h in
+      let lev : length s.variables + m.levels < 64 = omega arith in
+      let lt : length s.variables < 64 = omega arith in
+      let o = over_good count var among f m s p.0 g w lev p.1 in
+      good_roll count (kinds s.variables) (text.measured_step (Form-F.Some var among m)) (Typing-F.Some (length s.variables) p.0.0 p.0.1) t
+      (rolls-Some (length s.variables) p.0.0 p.0.1 ∙ p.2)
+      (three (is_next (kinds s.variables) (length s.variables)) (are_neighbours count p.0.0) (fits count p.0.1 (kinds s.variables ++ Neighbour ∷ [])) (next s.variables lt) o.0 o.1.fits)
+      (ap (λ (n : Measured). let r : Measured = record { binds = 3; levels = n.levels + 1 } in r) o.1.same);
 }
 
 good_if : (count : ℕ) (var : Name) (side : Side) (of : Name) (f g : Typer) (m n : Measured) → IsGoodTyper count f m → IsGoodTyper count g n
     → IsGoodTyper count (typed_step (Form-F.If var side of f g)) (text.measured_step (Form-F.If var side of m n))
 unfolding conditional
-good_if count var side of f g m n gf gg = record { good = λ s t w l h.
-    let p = chained (λ called. who s of >>= (λ from. f (bind s Route called) >>= (λ then_. g s >>= (λ else_. Ok (typings.If (length s.variables) side from then_ else_))))) (new_variable s var) t h in
-    let q = chained (λ from. f (bind s Route p.0) >>= (λ then_. g s >>= (λ else_. Ok (typings.If (length s.variables) side from then_ else_)))) (who s of) t p.2 in
-    let r = chained (λ then_. g s >>= (λ else_. Ok (typings.If (length s.variables) side q.0 then_ else_))) (f (bind s Route p.0)) t q.2 in
-    let u = chained (λ else_. Ok (typings.If (length s.variables) side q.0 r.0 else_)) (g s) t r.2 in
-    let made : Result Typing ℕ = Ok (typings.If (length s.variables) side q.0 r.0 u.0) in
-    let whole : made ≡ Ok t = u.2 in
-    let e : typings.If (length s.variables) side q.0 r.0 u.0 ≡ t = cc in
-    let lev : length s.variables + m.levels < 64 = omega arith in
-    let lev_else : length s.variables + n.levels ≤ 64 = omega arith in
-    let lt : length s.variables < 64 = omega arith in
-    let i = inner_good count f m s Route p.0 r.0 gf w lev r.1 in
-    let j = gg.good s u.0 w lev_else u.1 in
-    good_roll count (kinds s.variables) (text.measured_step (Form-F.If var side of m n)) (Typing-F.If (length s.variables) side q.0 r.0 u.0) t
-    (rolls-If (length s.variables) side q.0 r.0 u.0 ∙ e)
-    (both (is_next (kinds s.variables) (length s.variables) && is_who count (kinds s.variables) q.0 && fits count r.0 (kinds s.variables ++ Route ∷ [])) (fits count u.0 (kinds s.variables))
+good_if count var side of f g m n gf gg = record {
+  good = λ s t w l h.
+      let p = chained (λ called. who s of >>= (λ from. f (bind s Route called) >>= (λ then_. g s >>= (λ else_. Ok (typings.If (length s.variables) side from then_ else_))))) (new_variable s var) t h in
+      let q = chained (λ from. f (bind s Route p.0) >>= (λ then_. g s >>= (λ else_. Ok (typings.If (length s.variables) side from then_ else_)))) (who s of) t p.2 in
+      let r = chained (λ then_. g s >>= (λ else_. Ok (typings.If (length s.variables) side q.0 then_ else_))) (f (bind s Route p.0)) t q.2 in
+      let u = chained (λ else_. Ok (typings.If (length s.variables) side q.0 r.0 else_)) (g s) t r.2 in
+      let made : Result Typing ℕ = Ok (typings.If (length s.variables) side q.0 r.0 u.0) in
+      let whole : made ≡ Ok t = u.2 in
+      let e : typings.If (length s.variables) side q.0 r.0 u.0 ≡ t = cc in
+      let lev : length s.variables + m.levels < 64 = omega arith in
+      let lev_else : length s.variables + n.levels ≤ 64 = omega arith in
+      let lt : length s.variables < 64 = omega arith in
+      let i = inner_good count f m s Route p.0 r.0 gf w lev r.1 in
+      let j = gg.good s u.0 w lev_else u.1 in
+      good_roll count (kinds s.variables) (text.measured_step (Form-F.If var side of m n)) (Typing-F.If (length s.variables) side q.0 r.0 u.0) t
+      (rolls-If (length s.variables) side q.0 r.0 u.0 ∙ e)
+      (both (is_next (kinds s.variables) (length s.variables) && is_who count (kinds s.variables) q.0 && fits count r.0 (kinds s.variables ++ Route ∷ [])) (fits count u.0 (kinds s.variables))
       (three (is_next (kinds s.variables) (length s.variables)) (is_who count (kinds s.variables) q.0) (fits count r.0 (kinds s.variables ++ Route ∷ [])) (next s.variables lt) (who_fits count s of q.0 w q.1) i.fits)
       j.fits)
-    (ap (λ (x : Measured). let r : Measured = record { binds = 3; levels = max x.levels (measured u.0).levels + 1 } in r) i.same
-    ∙ ap (λ (x : Measured). let r : Measured = record { binds = 3; levels = max m.levels x.levels + 1 } in r) j.same);
+      (ap (λ (x : Measured). let r : Measured = record { binds = 3; levels = max x.levels (measured u.0).levels + 1 } in r) i.same
+      ∙ ap (λ (x : Measured). let r : Measured = record { binds = 3; levels = max m.levels x.levels + 1 } in r) j.same);
 }
 
 -- ---- formulas that hold no formula
 
 good_stands : (count : ℕ) (side : Side) (of : Name) → IsGoodTyper count (typed_step (Form-F.Stands side of)) flat
-good_stands count side of = record { good = λ s t w l h.
-    let p = mapped (λ x. typings.Stands side x) (who s of) t h in
-    good_roll count (kinds s.variables) flat (Typing-F.Stands side p.0) t (rolls-Stands side p.0 ∙ p.2) (who_fits count s of p.0 w p.1) refl;
+good_stands count side of = record {
+  good = λ s t w l h.
+      let p = mapped (λ x. typings.Stands side x) (who s of) t h in
+      good_roll count (kinds s.variables) flat (Typing-F.Stands side p.0) t (rolls-Stands side p.0 ∙ p.2) (who_fits count s of p.0 w p.1) refl;
 }
 
 good_has : (count : ℕ) (var : Name) (community : ℕ) → IsGoodTyper count (typed_step (Form-F.Has var community)) flat
-good_has count var community = record { good = λ s t w l h.
-    let p = mapped (λ n. typings.Has n community) (route s var) t h in
-    good_roll count (kinds s.variables) flat (Typing-F.Has p.0 community) t (rolls-Has p.0 community ∙ p.2) (route_fits s var p.0 p.1) refl;
+good_has count var community = record {
+  good = λ s t w l h.
+      let p = mapped (λ n. typings.Has n community) (route s var) t h in
+      good_roll count (kinds s.variables) flat (Typing-F.Has p.0 community) t (rolls-Has p.0 community ∙ p.2) (route_fits s var p.0 p.1) refl;
 }
 
 good_crosses : (count : ℕ) (var : Name) (term : Term) → IsGoodTyper count (typed_step (Form-F.Crosses var term)) flat
 unfolding crosses
-good_crosses count var term = record { good = λ s t w l h.
-    let p = chained (λ n. value s term >>= (λ x. Ok (typings.Crosses n x))) (route s var) t h in
-    let q = chained (λ x. Ok (typings.Crosses p.0 x)) (value s term) t p.2 in
-    let made : Result Typing ℕ = Ok (typings.Crosses p.0 q.0) in
-    let whole : made ≡ Ok t = q.2 in
-    let e : typings.Crosses p.0 q.0 ≡ t = cc in
-    good_roll count (kinds s.variables) flat (Typing-F.Crosses p.0 q.0) t (rolls-Crosses p.0 q.0 ∙ e)
-    (both (is_variable Route (kinds s.variables) p.0) (is_value count (kinds s.variables) q.0) (route_fits s var p.0 p.1) (value_fits count s term q.0 w q.1)) refl;
+good_crosses count var term = record {
+  good = λ s t w l h.
+      let p = chained (λ n. value s term >>= (λ x. Ok (typings.Crosses n x))) (route s var) t h in
+      let q = chained (λ x. Ok (typings.Crosses p.0 x)) (value s term) t p.2 in
+      let made : Result Typing ℕ = Ok (typings.Crosses p.0 q.0) in
+      let whole : made ≡ Ok t = q.2 in
+      let e : typings.Crosses p.0 q.0 ≡ t = cc in
+      good_roll count (kinds s.variables) flat (Typing-F.Crosses p.0 q.0) t (rolls-Crosses p.0 q.0 ∙ e)
+      (both (is_variable Route (kinds s.variables) p.0) (is_value count (kinds s.variables) q.0) (route_fits s var p.0 p.1) (value_fits count s term q.0 w q.1)) refl;
 }
 
 good_is : (count : ℕ) (one other : Name) → IsGoodTyper count (typed_step (Form-F.Is one other)) flat
 unfolding is_same
-good_is count one other = record { good = λ s t w l h.
-    let p = chained (λ n. who s other >>= (λ m. Ok (typings.Is n m))) (who s one) t h in
-    let q = chained (λ m. Ok (typings.Is p.0 m)) (who s other) t p.2 in
-    let made : Result Typing ℕ = Ok (typings.Is p.0 q.0) in
-    let whole : made ≡ Ok t = q.2 in
-    let e : typings.Is p.0 q.0 ≡ t = cc in
-    good_roll count (kinds s.variables) flat (Typing-F.Is p.0 q.0) t (rolls-Is p.0 q.0 ∙ e)
-    (both (is_who count (kinds s.variables) p.0) (is_who count (kinds s.variables) q.0) (who_fits count s one p.0 w p.1) (who_fits count s other q.0 w q.1)) refl;
+good_is count one other = record {
+  good = λ s t w l h.
+      let p = chained (λ n. who s other >>= (λ m. Ok (typings.Is n m))) (who s one) t h in
+      let q = chained (λ m. Ok (typings.Is p.0 m)) (who s other) t p.2 in
+      let made : Result Typing ℕ = Ok (typings.Is p.0 q.0) in
+      let whole : made ≡ Ok t = q.2 in
+      let e : typings.Is p.0 q.0 ≡ t = cc in
+      good_roll count (kinds s.variables) flat (Typing-F.Is p.0 q.0) t (rolls-Is p.0 q.0 ∙ e)
+      (both (is_who count (kinds s.variables) p.0) (is_who count (kinds s.variables) q.0) (who_fits count s one p.0 w p.1) (who_fits count s other q.0 w q.1)) refl;
 }
 
 good_prefix : (count : ℕ) (name : Name) → IsGoodTyper count (typed_step (Form-F.PrefixIn name)) flat
-good_prefix count name = record { good = λ s t w l h.
-    let p = mapped (λ x. typings.PrefixIn x) (set s name) t h in
-    good_roll count (kinds s.variables) flat (Typing-F.PrefixIn p.0) t (rolls-PrefixIn p.0 ∙ p.2) (set_fits count s name p.0 w p.1) refl;
+good_prefix count name = record {
+  good = λ s t w l h.
+      let p = mapped (λ x. typings.PrefixIn x) (set s name) t h in
+      good_roll count (kinds s.variables) flat (Typing-F.PrefixIn p.0) t (rolls-PrefixIn p.0 ∙ p.2) (set_fits count s name p.0 w p.1) refl;
 }
 
 good_compare : (count : ℕ) (one : Term) (op : Cmp) (other : Term) → IsGoodTyper count (typed_step (Form-F.Compare one op other)) flat
 unfolding compared
-good_compare count one op other = record { good = λ s t w l h.
-    let p = chained (λ n. value s other >>= (λ m. Ok (typings.Compare n op m))) (value s one) t h in
-    let q = chained (λ m. Ok (typings.Compare p.0 op m)) (value s other) t p.2 in
-    let made : Result Typing ℕ = Ok (typings.Compare p.0 op q.0) in
-    let whole : made ≡ Ok t = q.2 in
-    let e : typings.Compare p.0 op q.0 ≡ t = cc in
-    good_roll count (kinds s.variables) flat (Typing-F.Compare p.0 op q.0) t (rolls-Compare p.0 op q.0 ∙ e)
-    (both (is_value count (kinds s.variables) p.0) (is_value count (kinds s.variables) q.0) (value_fits count s one p.0 w p.1) (value_fits count s other q.0 w q.1)) refl;
+good_compare count one op other = record {
+  good = λ s t w l h.
+      let p = chained (λ n. value s other >>= (λ m. Ok (typings.Compare n op m))) (value s one) t h in
+      let q = chained (λ m. Ok (typings.Compare p.0 op m)) (value s other) t p.2 in
+      let made : Result Typing ℕ = Ok (typings.Compare p.0 op q.0) in
+      let whole : made ≡ Ok t = q.2 in
+      let e : typings.Compare p.0 op q.0 ≡ t = cc in
+      good_roll count (kinds s.variables) flat (Typing-F.Compare p.0 op q.0) t (rolls-Compare p.0 op q.0 ∙ e)
+      (both (is_value count (kinds s.variables) p.0) (is_value count (kinds s.variables) q.0) (value_fits count s one p.0 w p.1) (value_fits count s other q.0 w q.1)) refl;
 }
 
 -- ---- every formula

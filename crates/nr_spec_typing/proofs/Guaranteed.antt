@@ -1,5 +1,5 @@
 -- What a typed text guarantees, declaration by declaration.
-use Rattle.std.proofs.Common.{◌≡◌, ℕ, zero, suc, ◌+◌, ◌<◌, ◌≤◌, Bool, true, false, ◌&&◌, ◌||◌, ◌==◌, not, List, [], ◌∷◌, ◌++◌, map, length, slice_get, nat_lt, nat_le, is_none, count_by, Option, Some, None, IfSome, Result, Ok, Err, refl, ap, sym, subst, ◌∙◌, arith}
+use Rattle.std.proofs.Common.{◌≡◌, ℕ, zero, suc, ◌+◌, ◌<◌, ◌≤◌, true, ◌&&◌, ◌||◌, ◌==◌, not, List, [], ◌∷◌, ◌++◌, map, length, slice_get, nat_lt, nat_le, is_none, count_by, Option, Some, None, IfSome, Result, Ok, refl, ap, sym, subst, arith}
 use Rattle.std.specs.List.{All, list_all, list_any}
 use Rattle.std.proofs.lemmas.Bool.Decides.{nat_tests}
 use Rattle.std.proofs.lemmas.List.{length-append}
@@ -25,10 +25,10 @@ use Rattle.nr_spec_typing.specs.declared.name.Declared.{Declared}
 use Rattle.nr_spec_typing.specs.declared.text.Neighbour.{Neighbour}
 use Rattle.nr_spec_typing.specs.declared.text.Promise.{Promise}
 use Rattle.nr_spec_typing.specs.declared.tree.Typing.{Typing}
-use Rattle.nr_spec_typing.specs.Steps.{◌<$>◌, all_of, in_turn}
+use Rattle.nr_spec_typing.specs.Steps.{all_of, in_turn}
 use Rattle.nr_spec_typing.specs.Scopes.{Scope, meaning}
 use Rattle.nr_spec_typing.specs.Forms.{typed}
-use Rattle.nr_spec_typing.specs.Declarations.{TypedText, Known, nothing, is_group, is_define, is_new, declare, most_seconds, at_most, network, commit, same_number, is_like, is_neighbour_name, key_of, neighbour, member_by, member, add_member, members, group, most_of, pattern, define, places_by, places, promise, declaration, declarations, whole_by, whole, typed_text}
+use Rattle.nr_spec_typing.specs.Declarations.{TypedText, Known, nothing, is_group, is_define, is_new, declare, most_seconds, at_most, network, commit, is_like, is_neighbour_name, key_of, neighbour, member_by, member, add_member, members, group, most_of, pattern, define, places_by, places, promise, declaration, declarations, whole_by, whole, typed_text}
 use Rattle.nr_spec_typing.specs.Guarantees.{are_neighbours, is_pattern, IsPromise, IsKeyNumber, IsTyped}
 use Rattle.nr_spec_typing.proofs.Fitting.{mapped, chained, passed, both, left, right, below, IsWithin, AreWithin, meaning_within, every_good}
 
@@ -170,8 +170,8 @@ neighbour_good k next name asn addr signs g h =
     let e : make p.0 q.0 ≡ next = ok_same (make p.0 q.0) next q.2 in
     let test = (passed (is_neighbour_name k name asn addr signs) name.span.from name p.0 p.1).0 in
     let room : length k.neighbours < 256 =
-      lt_passed (length k.neighbours) 256 (right (is_new k.names name) (nat_lt (length k.neighbours) 256)
-        (left (is_new k.names name && nat_lt (length k.neighbours) 256) (not (list_any (is_like asn addr signs) k.neighbours)) test)) in
+    lt_passed (length k.neighbours) 256 (right (is_new k.names name) (nat_lt (length k.neighbours) 256)
+    (left (is_new k.names name && nat_lt (length k.neighbours) 256) (not (list_any (is_like asn addr signs) k.neighbours)) test)) in
     let n : Neighbour = record { name = p.0.word; asn = asn.value; addr = addr.value; key = q.0 } in
     let size : length (k.neighbours ++ n ∷ []) ≡ length k.neighbours + 1 = length-append k.neighbours (n ∷ []) in
     let le : length k.neighbours ≤ length (k.neighbours ++ n ∷ []) = omega arith in
@@ -182,15 +182,19 @@ neighbour_good k next name asn addr signs g h =
       keys = All-push (λ (n : Neighbour). IsKeyNumber n.key) k.neighbours n g.keys (key_good signs q.0 q.1);
       promises = g.promises;
       formulas = All-weaker (λ (p : Promise). (count : ℕ) → length k.neighbours ≤ count → IsPromise count p) (λ (p : Promise). (count : ℕ) → length (k.neighbours ++ n ∷ []) ≤ count → IsPromise count p)
-        (λ x f count m. f count (omega arith)) k.promises g.formulas;
+          (λ x f count m. f count (omega arith)) k.promises g.formulas;
       names = one_more (length (k.neighbours ++ n ∷ [])) k.names (record { word = p.0.word; means = named.Neighbour (length k.neighbours) })
-        (all_grown (length k.neighbours) (length (k.neighbours ++ n ∷ [])) k.names le g.names) self;
+          (all_grown (length k.neighbours) (length (k.neighbours ++ n ∷ [])) k.names le g.names) self;
     })
 
 -- one name more, which changes nothing else
 named_good : (k : Known) (name : Name) (means : Named) → IsGoodKnown k → IsWithin (length k.neighbours) means → IsGoodKnown (record k { names = declare k.names name means })
 named_good k name means g w = record {
-  commit = g.commit; neighbours = g.neighbours; keys = g.keys; promises = g.promises; formulas = g.formulas;
+  commit = g.commit;
+  neighbours = g.neighbours;
+  keys = g.keys;
+  promises = g.promises;
+  formulas = g.formulas;
   names = one_more (length k.neighbours) k.names (record { word = name.word; means = means }) g.names w;
 }
 
@@ -256,7 +260,7 @@ promise_good k next name grace at form g nested h =
       promises = k.promises ++ record { name = called.word; grace = seconds; at = prefixes; form = held } ∷ [];
     } in
     let p = chained (λ called. at_most most_seconds grace >>= (λ seconds. places at >>= (λ prefixes. typed form (scope called) >>= (λ held. Ok (make called seconds prefixes held)))))
-      (wants (is_new k.names name && nat_lt (length k.promises) 256) name.span.from name) next h in
+    (wants (is_new k.names name && nat_lt (length k.promises) 256) name.span.from name) next h in
     let q = chained (λ seconds. places at >>= (λ prefixes. typed form (scope p.0) >>= (λ held. Ok (make p.0 seconds prefixes held)))) (at_most most_seconds grace) next p.2 in
     let r = chained (λ prefixes. typed form (scope p.0) >>= (λ held. Ok (make p.0 q.0 prefixes held))) (places at) next q.2 in
     let u = chained (λ held. Ok (make p.0 q.0 r.0 held)) (typed form (scope p.0)) next r.2 in
@@ -273,7 +277,7 @@ promise_good k next name grace at form g nested h =
       keys = g.keys;
       promises = omega arith;
       formulas = All-push (λ (p : Promise). (count : ℕ) → length k.neighbours ≤ count → IsPromise count p) k.promises x g.formulas
-        (λ count le.
+          (λ count le.
           let i = (every_good count form).good (scope p.0) u.0 (all_grown (length k.neighbours) count (scope p.0).names le names) lev u.1 in
           record {
             grace = at_most_passed most_seconds grace q.0 q.1;
@@ -294,8 +298,12 @@ declaration_good k (decls.Promise name grace at form) next g n h = promise_good 
 
 nothing_good : IsGoodKnown nothing
 nothing_good = record {
-  commit = tt; neighbours = omega arith; keys = All-nil (λ (n : Neighbour). IsKeyNumber n.key); promises = omega arith;
-  formulas = All-nil (λ (p : Promise). (count : ℕ) → 0 ≤ count → IsPromise count p); names = tt;
+  commit = tt;
+  neighbours = omega arith;
+  keys = All-nil (λ (n : Neighbour). IsKeyNumber n.key);
+  promises = omega arith;
+  formulas = All-nil (λ (p : Promise). (count : ℕ) → 0 ≤ count → IsPromise count p);
+  names = tt;
 }
 
 -- ---- the whole text

@@ -1,14 +1,12 @@
 -- What a well typed text guarantees, so that whether its formulas hold can always be told: each variable is
 -- bound around its place and stands for what is asked of it, and each number is in its range.
-use Rattle.std.specs.Prelude.{◌≡◌, ℕ, ◌+◌, ◌<◌, ◌≤◌, max, Bool, true, false, ◌&&◌, ◌||◌, ◌==◌, List, [], ◌∷◌, ◌++◌, map, length, slice_get, nat_lt, nat_le, Option, Some, None, IfSome, IsTrue}
+use Rattle.std.specs.Prelude.{◌≡◌, ℕ, ◌+◌, ◌<◌, ◌≤◌, max, Bool, true, false, ◌&&◌, ◌||◌, ◌==◌, List, [], ◌∷◌, ◌++◌, length, slice_get, nat_lt, nat_le, Option, Some, None}
 use Rattle.std.specs.List.{All, list_all}
 use Rattle.nr_chain.specs.declared.digest.Digest.{Digest}
 use Rattle.nr_prefix.specs.declared.set.Pattern.{Pattern}
 use Rattle.nr_rule_syntax.specs.Nesting.{Measured, levels_within, most_within, flat}
 use Rattle.nr_spec_typing.specs.declared.name.Bound.{Bound}
 use Rattle.nr_spec_typing.specs.declared.name.Bound.TheVariants.{Neighbour, Route}
-use Rattle.nr_spec_typing.specs.declared.name.Variable.{Variable}
-use Rattle.nr_spec_typing.specs.declared.text.Neighbour as texts
 use Rattle.nr_spec_typing.specs.declared.text.Promise.{Promise}
 use Rattle.nr_spec_typing.specs.declared.tree.Who.{Who}
 use Rattle.nr_spec_typing.specs.declared.tree.Who.TheVariants.{Var, Named}
