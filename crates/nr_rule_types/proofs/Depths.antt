@@ -1,5 +1,5 @@
 -- How deep the deepest of some formulas nests.
-use Rattle.std.proofs.Common.{◌≡◌, ℕ, zero, suc, ◌+◌, ◌<◌, ◌≤◌, max, List, [], ◌∷◌, map, length, get_or, sym, subst, rules, arith}
+use Rattle.std.proofs.Common.{◌≡◌, ℕ, zero, suc, ◌<◌, ◌≤◌, max, List, [], ◌∷◌, map, length, get_or, sym, subst, rules, arith}
 use Rattle.std.proofs.lemmas.Bool.Decides.{nat_tests}
 use Rattle.nr_rule_syntax.specs.declared.tree.Form.{Form, the_lemmas}
 use Rattle.nr_rule_syntax.specs.declared.tree.Form.TheVariants.{And, Or}

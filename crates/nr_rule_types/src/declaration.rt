@@ -23,9 +23,11 @@ use std::marker::Model;
 
 /// The most neighbours and the most promises of a text.
 const MOST_NEIGHBOURS: usize = 256;
+
 const MOST_PROMISES: usize = 256;
 /// The most groups and the most sets of prefixes.
 const MOST_GROUPS: usize = 64;
+
 const MOST_DEFINES: usize = 64;
 /// The most prefixes after `at`.
 const MOST_PLACES: usize = 1024;
@@ -366,11 +368,7 @@ fn promise<'a>(
     })
 }
 
-fn declaration<'a>(
-    alloc: Global,
-    known: Known<'a>,
-    decl: &'a Decl,
-) -> Result<Known<'a>, TypeError>
+fn declaration<'a>(alloc: Global, known: Known<'a>, decl: &'a Decl) -> Result<Known<'a>, TypeError>
     requires { IsNested decl.now }
     ensures { Answers (spec.declaration known.entry decl.now) result }
 {

@@ -85,18 +85,8 @@ fn over_group(
 
 /// A formula in its scope, with its names resolved.
 #[cycle(form)]
-#[tactic(
-    auto,
-    unfolding(
-        nr_spec_typing::specs::Forms::implies,
-        nr_spec_typing::specs::Forms::conditional
-    )
-)]
-pub fn typed(
-    alloc: Global,
-    scope: &mut Scope<'_, '_>,
-    form: &Form,
-) -> Result<Typing, TypeError>
+#[tactic(auto, unfolding(nr_spec_typing::specs::Forms::implies, nr_spec_typing::specs::Forms::conditional))]
+pub fn typed(alloc: Global, scope: &mut Scope<'_, '_>, form: &Form) -> Result<Typing, TypeError>
     requires levels { length scope.old.variables + depth form.now ≤ 64 }
     ensures value { Answers (spec.typed form.now scope.old) result }
     ensures kept { OnOk result (scope.new ≡ scope.old) }

@@ -84,7 +84,12 @@ impl<'a> Names<'a> {
     }
 
     /// The names with one more, which is new.
-    pub fn declare(self, alloc: Global, name: &'a Name, means: Named) -> Result<Names<'a>, AllocError>
+    pub fn declare(
+        self,
+        alloc: Global,
+        name: &'a Name,
+        means: Named,
+    ) -> Result<Names<'a>, AllocError>
         requires { meaning self name.now.word ≡ None }
         ensures { IfOk result (λ names. names ≡ declare self.entry name.now means) }
     {

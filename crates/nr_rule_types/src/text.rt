@@ -4,6 +4,7 @@ ghost use Rattle.std.specs.Prelude.{◌≡◌, IfOk};
 ghost use Rattle.std.specs.List.{All};
 ghost use Rattle.nr_rule_syntax.specs.Nesting.{IsNested};
 ghost use Rattle.nr_spec_typing.specs.Declarations.{typed_text};
+ghost use Rattle.nr_spec_typing.specs.Guarantees.{IsTyped};
 ghost use Rattle.nr_rule_types.specs.Views.{Answers};
 
 use crate::copy::{copy_neighbours, copy_promises};
@@ -11,7 +12,7 @@ use crate::declaration::{Known, declarations};
 use crate::fault::TypeError;
 use nr_bytes::{Memory, Place};
 use nr_rule_syntax::File;
-use nr_spec_typing::{Neighbour, Promise};
+use nr_spec_typing::{Neighbour, Promise, typed_texts_fit};
 use sqlite_items::Items;
 use std::alloc::Global;
 use std::marker::Model;
@@ -29,6 +30,7 @@ pub struct Typed {
 impl Model for Typed {
     ghost use Rattle.std.specs.Coded.{codes};
     ghost use Rattle.nr_spec_typing.specs.Declarations.{TypedText};
+    ghost use Rattle.nr_spec_typing.specs.Guarantees.{IsTyped};
     ghost use Rattle.nr_spec_typing.specs.contracts.tree.Typing as e;
 
     ghost Value = { TypedText };
@@ -36,6 +38,8 @@ impl Model for Typed {
     ghost coded = { Prim.hlevel (codes, e.the_row.coded) };
 
     ghost view = { λ t. record { network = t.network; commit = t.commit; neighbours = t.neighbours; promises = t.promises } };
+
+    ghost invariant = { λ t. IsTyped (record { network = t.network; commit = t.commit; neighbours = t.neighbours; promises = t.promises }) };
 }
 
 impl Typed {
@@ -55,14 +59,16 @@ impl Typed {
 
     /// The neighbours, by their numbers.
     pub fn neighbours(&self) -> &[Neighbour]
-        ensures { result.now ≡ self.now.neighbours }
+        ensures value { result.now ≡ self.now.neighbours }
+        ensures typed { IsTyped self.now }
     {
         self.neighbours.as_slice()
     }
 
     /// The promises, by their numbers.
     pub fn promises(&self) -> &[Promise]
-        ensures { result.now ≡ self.now.promises }
+        ensures value { result.now ≡ self.now.promises }
+        ensures typed { IsTyped self.now }
     {
         self.promises.as_slice()
     }
@@ -85,8 +91,10 @@ impl Typed {
 #[tactic(auto, unfolding(nr_spec_typing::specs::Declarations::typed_text))]
 pub fn check(alloc: Global, file: &File) -> Result<Typed, TypeError>
     requires { All IsNested file.now.decls }
-    ensures { Answers (typed_text file.now) result }
+    ensures value { Answers (typed_text file.now) result }
+    ensures typed { IfOk result IsTyped }
 {
+    typed_texts_fit();
     let Known {
         network,
         commit,

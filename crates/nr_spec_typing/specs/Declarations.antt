@@ -1,6 +1,6 @@
 -- The typing of a whole text, declaration by declaration: what it says, or the place of its first fault. Each
 -- test stands where its token stands in the text.
-use Rattle.std.specs.Prelude.{ℕ, Bool, true, false, ◌&&◌, ◌||◌, ◌==◌, not, List, [], ◌∷◌, ◌++◌, map, slice_get, length, count_by, nat_lt, nat_le, Option, Some, None, is_some, is_none, Result, Ok, Err, if◌then◌else◌}
+use Rattle.std.specs.Prelude.{ℕ, Bool, true, false, ◌&&◌, ◌||◌, ◌==◌, not, List, [], ◌∷◌, ◌++◌, map, slice_get, length, count_by, nat_lt, nat_le, Option, Some, None, is_none, Result, Ok, Err}
 use Rattle.std.specs.List.{list_any}
 use Rattle.nr_chain.specs.declared.digest.Digest.{Digest}
 use Rattle.nr_spec_rules.specs.declared.span.Span.{Span}
@@ -21,7 +21,7 @@ use Rattle.nr_spec_typing.specs.declared.name.Named.TheVariants as named
 use Rattle.nr_spec_typing.specs.declared.name.Declared.{Declared}
 use Rattle.nr_spec_typing.specs.declared.text.Neighbour.{Neighbour}
 use Rattle.nr_spec_typing.specs.declared.text.Promise.{Promise}
-use Rattle.nr_spec_typing.specs.Scopes.{Scope, meaning}
+use Rattle.nr_spec_typing.specs.Scopes.{meaning}
 use Rattle.nr_spec_typing.specs.Steps.{◌<$>◌, all_of, in_turn}
 use Rattle.nr_spec_typing.specs.Forms.{typed}
 

@@ -1,6 +1,6 @@
 -- The typing of a formula, node by node and in the order of its text: the tree with its names resolved, or the
 -- place of the first fault.
-use Rattle.std.specs.Prelude.{ℕ, List, length, Result, Ok, Err}
+use Rattle.std.specs.Prelude.{ℕ, List, length, Result, Ok}
 use Rattle.nr_spec_wire.specs.Reading.{◌>>=◌}
 use Rattle.nr_rule_syntax.specs.declared.tree.Name.{Name}
 use Rattle.nr_rule_syntax.specs.declared.tree.Side.{Side}
@@ -11,7 +11,6 @@ use Rattle.nr_rule_syntax.specs.declared.tree.Term.{Term}
 use Rattle.nr_rule_syntax.specs.declared.tree.Term.TheVariants as terms
 use Rattle.nr_rule_syntax.specs.declared.tree.Cmp.{Cmp}
 use Rattle.nr_spec_typing.specs.declared.name.Bound.TheVariants.{Neighbour, Route}
-use Rattle.nr_spec_typing.specs.declared.tree.Who.{Who}
 use Rattle.nr_spec_typing.specs.declared.tree.Value.{Value}
 use Rattle.nr_spec_typing.specs.declared.tree.Value.TheVariants as values
 use Rattle.nr_spec_typing.specs.declared.tree.Typing.{Typing}

@@ -1,14 +1,12 @@
 -- What a well typed text guarantees, so that whether its formulas hold can always be told: each variable is
 -- bound around its place and stands for what is asked of it, and each number is in its range.
-use Rattle.std.specs.Prelude.{◌≡◌, ℕ, ◌+◌, ◌<◌, ◌≤◌, max, Bool, true, false, ◌&&◌, ◌==◌, List, [], ◌∷◌, ◌++◌, map, length, slice_get, nat_lt, nat_le, Option, Some, None, IfSome, IsTrue}
+use Rattle.std.specs.Prelude.{◌≡◌, ℕ, ◌+◌, ◌<◌, ◌≤◌, max, Bool, true, false, ◌&&◌, ◌||◌, ◌==◌, List, [], ◌∷◌, ◌++◌, length, slice_get, nat_lt, nat_le, Option, Some, None}
 use Rattle.std.specs.List.{All, list_all}
 use Rattle.nr_chain.specs.declared.digest.Digest.{Digest}
 use Rattle.nr_prefix.specs.declared.set.Pattern.{Pattern}
 use Rattle.nr_rule_syntax.specs.Nesting.{Measured, levels_within, most_within, flat}
 use Rattle.nr_spec_typing.specs.declared.name.Bound.{Bound}
 use Rattle.nr_spec_typing.specs.declared.name.Bound.TheVariants.{Neighbour, Route}
-use Rattle.nr_spec_typing.specs.declared.name.Variable.{Variable}
-use Rattle.nr_spec_typing.specs.declared.text.Neighbour as texts
 use Rattle.nr_spec_typing.specs.declared.text.Promise.{Promise}
 use Rattle.nr_spec_typing.specs.declared.tree.Who.{Who}
 use Rattle.nr_spec_typing.specs.declared.tree.Who.TheVariants.{Var, Named}
@@ -49,6 +47,10 @@ is_value count around (values.Asn of) = is_who count around of
 abbrev pub are_neighbours : ℕ → List ℕ → Bool
 are_neighbours count members = list_all (λ n. nat_lt n count) members
 
+-- a greatest length is from the prefix's own length to 32, or that length itself
+abbrev pub is_pattern : Pattern → Bool
+is_pattern p = nat_le p.prefix.len p.most && (nat_le p.most 32 || p.most == p.prefix.len)
+
 -- a variable's number is how many are bound outside it, and at most 64 are bound at a place
 abbrev pub is_next : List Bound → ℕ → Bool
 is_next around var = var == length around && nat_lt var 64
@@ -71,7 +73,7 @@ fits_step count (Typing-F.Stands side of) = λ around. is_who count around of
 fits_step count (Typing-F.Has route community) = λ around. is_variable Route around route
 fits_step count (Typing-F.Crosses route term) = λ around. is_variable Route around route && is_value count around term
 fits_step count (Typing-F.Is left right) = λ around. is_who count around left && is_who count around right
-fits_step count (Typing-F.PrefixIn patterns) = λ around. true
+fits_step count (Typing-F.PrefixIn patterns) = λ around. list_all is_pattern patterns
 fits_step count (Typing-F.Compare left op right) = λ around. is_value count around left && is_value count around right
 
 abbrev pub fits : ℕ → Typing → Fitting

@@ -1,10 +1,9 @@
 -- When the formula of a promise holds.
-use Rattle.std.specs.Prelude.{ℕ, Bool, true, false, ◌&&◌, ◌||◌, ◌==◌, not, List, [], ◌∷◌, ◌++◌, map, slice_get, nat_lt, nat_le, Option, Some, None, is_some}
+use Rattle.std.specs.Prelude.{ℕ, Bool, true, false, ◌||◌, ◌==◌, not, List, [], ◌∷◌, ◌++◌, map, slice_get, nat_lt, nat_le, Option, Some, None, is_some}
 use Rattle.std.specs.List.{list_any, list_all}
 use Rattle.nr_spec_bgp.specs.Prefixes.{Cidr, is_in}
 use Rattle.nr_spec_bgp.specs.Paths.{path_len, first_as, last_as, crosses}
 use Rattle.nr_spec_bgp.specs.Attributes.{AttributeBlock, origin_of, next_hop_of, med_of, pref_of, path_of, has_community}
-use Rattle.nr_prefix.specs.declared.set.Pattern.{Pattern}
 use Rattle.nr_prefix.specs.Views.{pattern_of}
 use Rattle.nr_rule_syntax.specs.declared.tree.Side.{Side}
 use Rattle.nr_rule_syntax.specs.declared.tree.Side.TheVariants.{Sent, Received}

@@ -4,7 +4,7 @@ use Rattle.std.specs.Prelude.{ℕ, Bool, true, false, ◌&&◌, not, List, [], �
 use Rattle.std.specs.List.{list_any}
 use Rattle.std.specs.Str.{bytes_eq}
 use Rattle.nr_prefix.specs.declared.set.Pattern.{Pattern}
-use Rattle.nr_spec_wire.specs.Reading.{◌>>=◌, wants}
+use Rattle.nr_spec_wire.specs.Reading.{wants}
 use Rattle.nr_rule_syntax.specs.declared.tree.Name.{Name}
 use Rattle.nr_spec_typing.specs.declared.name.Named.{Named}
 use Rattle.nr_spec_typing.specs.declared.name.Named.TheVariants as named

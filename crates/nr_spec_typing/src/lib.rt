@@ -3,11 +3,13 @@
 //! well typed text says.
 #![tactic(auto)]
 
+mod law;
 mod name;
 mod shared;
 mod text;
 mod tree;
 
+pub use law::typed_texts_fit;
 pub use name::{Bound, Declared, Named, Variable};
 pub use shared::Shared;
 pub use text::{Neighbour, Promise};

@@ -1,4 +1,4 @@
-use Rattle.std.proofs.Common.{◌∙◌, ◌++◌, ◌∷◌, [], ap, arith}
+use Rattle.std.proofs.Common.{◌++◌, ◌∷◌, [], ap, arith}
 use Rattle.std.proofs.lemmas.Result.{err_from_is_err_and}
 use Rattle.nr_spec_typing.specs.Steps.{◌<$>◌}
 use Rattle.nr_rule_types.proofs.Walks.{way_more, way_fails, way_done, mapped_fails}

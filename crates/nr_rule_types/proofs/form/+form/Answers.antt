@@ -1,6 +1,6 @@
-use Rattle.std.proofs.Common.{◌≡◌, ◌≤◌, ◌+◌, ◌∙◌, ap, sym, length, rules, map, arith, get_or}
+use Rattle.std.proofs.Common.{◌≡◌, ◌≤◌, ◌+◌, ◌∙◌, ap, length, rules, arith}
 use Rattle.std.proofs.lemmas.Result.{err_from_is_err_and}
-use Rattle.nr_rule_syntax.specs.declared.tree.Form.{Form, the_lemmas}
+use Rattle.nr_rule_syntax.specs.declared.tree.Form.{the_lemmas}
 use Rattle.nr_rule_syntax.specs.declared.tree.Form.TheVariants.{And, Or}
 use Rattle.nr_rule_syntax.specs.Nesting.{depth}
 use Rattle.nr_spec_typing.specs.Scopes.{Scope}
