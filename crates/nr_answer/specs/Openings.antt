@@ -1,5 +1,4 @@
 -- What stands before the entries of an answer file, without where it lies in memory.
-use Rattle.std.specs.Prelude.{ℕ, List, Option}
 use Rattle.std.specs.Option.{option_map}
 use Rattle.nr_spec_log.specs.Answer.{Opening}
 use Rattle.nr_answer.specs.declared.opening.Front as declared

@@ -3,13 +3,15 @@
 ghost use Rattle.std.specs.Prelude.{◌≡◌, ◌≤◌, IfSome, length};
 ghost use Rattle.std.specs.Option.{option_map};
 ghost use Rattle.nr_spec_wire.specs.Reading.{Answers};
+ghost use Rattle.nr_spec_log.specs.Authenticator.{authenticator};
 ghost use Rattle.nr_spec_log.specs.Answer.{answer_of, body_offset, most_first};
 ghost use Rattle.nr_bytes.specs.Views.{offset_of};
 ghost use Rattle.nr_answer.specs.Views.{auth_of};
 
-use crate::auth::{Auth, Wanted, read_wanted};
+use crate::auth::Auth;
 use crate::entries::{Entries, read_entries};
 use crate::opening::{Front, read_front};
+use crate::statement::{Wanted, read_wanted};
 use nr_bytes::{Cursor, Place};
 use nr_chain::Digest;
 use std::marker::Model;
@@ -113,7 +115,8 @@ impl<'a> Answer<'a> {
 
     /// The authenticator of the last entry.
     pub fn head(&self) -> Auth<'a>
-        ensures { auth_of result ≡ self.now.head }
+        ensures value { auth_of result ≡ self.now.head }
+        ensures whole { result.whole.now ≡ authenticator self.now.head }
     {
         self.head
     }

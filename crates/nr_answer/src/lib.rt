@@ -9,6 +9,7 @@ mod auths;
 mod entries;
 mod fields;
 mod opening;
+mod statement;
 
 pub use answer::Answer;
 pub use auth::Auth;

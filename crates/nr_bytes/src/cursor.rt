@@ -1,7 +1,7 @@
 //! Reading fields in order.
 
 ghost use Rattle.std.specs.Prelude.{◌≡◌, ◌+◌, ◌≤◌, length, IfOk};
-ghost use Rattle.nr_spec_wire.specs.Reading.{Spot, start_of, number_at, bytes_at, part_at, between, Gives, IsOnward};
+ghost use Rattle.nr_spec_wire.specs.Reading.{Spot, start_of, number_at, bytes_at, part_at, between, Gives, IsOnward, IsBytes};
 ghost use Rattle.nr_bytes.specs.Views.{short_at};
 
 use crate::fault::Short;
@@ -25,6 +25,14 @@ impl<'a> Model for Cursor<'a> {
     ghost view = { λ c. record { at = c.at; rest = c.rest.now } };
 
     ghost invariant = { λ c. c.at + length c.rest.now < 2 ^ 64 };
+}
+
+// The same slice. A value behind a field has its range where it is passed on.
+fn bytes_in<'a>(bytes: &'a [u8]) -> &'a [u8]
+    ensures same { result.now ≡ bytes.now }
+    ensures bytes { IsBytes bytes.now }
+{
+    bytes
 }
 
 impl<'a> Cursor<'a> {
@@ -51,11 +59,12 @@ impl<'a> Cursor<'a> {
 
     /// A second cursor at the same place.
     pub fn fork(&self) -> Cursor<'a>
-        ensures { result ≡ self.now }
+        ensures same { result ≡ self.now }
+        ensures bytes { IsBytes self.now.rest }
     {
         Cursor {
             at: self.at,
-            rest: self.rest,
+            rest: bytes_in(self.rest),
         }
     }
 

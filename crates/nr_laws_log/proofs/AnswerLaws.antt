@@ -6,12 +6,12 @@ use Rattle.std.proofs.lemmas.Bool.{eqb-true, leb-true, le-leb, lt-ltb}
 use Rattle.std.proofs.lemmas.List.{append-nil, nil_from_length}
 use Rattle.std.proofs.lemmas.Slice.Eq.{bytes_eq-Decides}
 use Rattle.byteorder.specs.Endian.{big_bytes}
-use Rattle.nr_spec_wire.specs.Reading.{Spot, start_of, ends_at}
+use Rattle.nr_spec_wire.specs.Reading.{Spot, start_of, ends_at, IsBytes}
 use Rattle.nr_spec_wire.proofs.Steps.{ok_is}
 use Rattle.nr_spec_log.specs.Chain.{LogEntry, genesis_value}
 use Rattle.nr_spec_log.specs.Authenticator.{Authenticator, authenticator, wanted_at}
 use Rattle.nr_spec_log.specs.Answer.{AnswerFile, IsAnswer, StartsAt, IsCheckpointFirst, answer_file, answer_magic, answer_of, answer_from, body_field, entry, entries_at, head_of, is_first, is_later, is_prev, most_body, most_first, Opening, opening_at}
-use Rattle.nr_laws_log.specs.Laws.{IsBytes, IsWanted, AreNext}
+use Rattle.nr_laws_log.specs.Laws.{IsWanted, AreNext}
 use Rattle.nr_laws_log.proofs.Fields.{step, number_text, reads_then}
 use Rattle.nr_laws_log.proofs.AuthenticatorLaws.{wanted_takes, wanted_again}
 use Rattle.nr_laws_log.proofs.EntryLaws.{entries_take, entries_again}

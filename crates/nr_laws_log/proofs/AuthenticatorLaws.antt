@@ -3,10 +3,10 @@ use Rattle.std.proofs.Common.{◌≡◌, ℕ, ◌+◌, ◌^◌, ◌<◌, true, L
 use Rattle.std.proofs.lemmas.Bool.{eqb-true, eq-eqb}
 use Rattle.std.proofs.lemmas.List.{length-append}
 use Rattle.byteorder.specs.Endian.{big_bytes}
-use Rattle.nr_spec_wire.specs.Reading.{Spot, ◌>>=◌, bytes_at}
+use Rattle.nr_spec_wire.specs.Reading.{Spot, ◌>>=◌, bytes_at, IsBytes}
 use Rattle.nr_spec_wire.proofs.Steps.{ok_is}
 use Rattle.nr_spec_log.specs.Authenticator.{Authenticator, IsAuthenticator, Head, IsSignature, signature, signature_at, authenticator, wanted_at, authenticator_at, is_asn_of, is_seq_of, is_time_of, digest_size}
-use Rattle.nr_laws_log.specs.Laws.{IsBytes, Takes, ReadsSpelled, SpelledReads, SpeaksOf, IsWanted}
+use Rattle.nr_laws_log.specs.Laws.{Takes, ReadsSpelled, SpelledReads, SpeaksOf, IsWanted}
 use Rattle.nr_laws_log.proofs.Fields.{Takes-then, step, number_text, text_step, number_again, bytes_step, bytes_again, wants_step, reads_then, wants_then}
 use Rattle.nr_laws_log.proofs.SignatureLaws.{signature_takes, signature_again}
 

@@ -4,9 +4,9 @@ use Rattle.std.proofs.lemmas.Bool.{ltb-false, le-ltb}
 use Rattle.std.proofs.lemmas.List.{take_at, drop_at, take-append-drop, length-append, length-take, get_or-drop}
 use Rattle.byteorder.specs.Endian.{big_bytes, big_number}
 use Rattle.byteorder.specs.Numbers.{big_from-lt, big_number-reads_back, length-bytes_high_first}
-use Rattle.nr_spec_wire.specs.Reading.{Spot, Read, ◌>>=◌, number_at, bytes_at, wants, past}
+use Rattle.nr_spec_wire.specs.Reading.{Spot, Read, ◌>>=◌, number_at, bytes_at, wants, past, IsBytes}
 use Rattle.nr_spec_wire.proofs.Steps.{ok_is, bind_ok}
-use Rattle.nr_laws_log.specs.Laws.{IsBytes, Takes, ReadsSpelled, SpelledReads, IsPrefixFree}
+use Rattle.nr_laws_log.specs.Laws.{Takes, ReadsSpelled, SpelledReads, IsPrefixFree}
 use Rattle.nr_laws_log.proofs.Bytes.{bytes_of_number}
 
 IsBytes-drop : (n : ℕ) (bytes : List ℕ) → IsBytes bytes → IsBytes (drop n bytes)

@@ -1,7 +1,7 @@
 mod Bytes
 mod Fields
 mod SignatureLaws
-mod AuthenticatorLaws
+pub mod AuthenticatorLaws
 mod EntryLaws
 mod RowLaws
 mod OpeningLaws

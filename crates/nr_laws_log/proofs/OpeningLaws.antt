@@ -2,11 +2,11 @@
 use Rattle.std.proofs.Common.{◌≡◌, ℕ, ◌+◌, ◌^◌, ◌<◌, ◌≤◌, Bool, true, false, cond, leb, ◌&&◌, List, [], ◌++◌, length, Option, Some, None, Ok, refl, sym, ap, subst, ◌∙◌, append_assoc, arith}
 use Rattle.std.proofs.lemmas.Bool.{eqb-true, eq-eqb, leb-true, le-leb}
 use Rattle.std.proofs.lemmas.List.{length-append}
-use Rattle.nr_spec_wire.specs.Reading.{Spot, Read, ◌>>=◌, number_at, wants}
+use Rattle.nr_spec_wire.specs.Reading.{Spot, Read, ◌>>=◌, number_at, wants, IsBytes}
 use Rattle.nr_spec_wire.proofs.Steps.{ok_is}
 use Rattle.nr_spec_log.specs.Authenticator.{digest_size, magic_at}
 use Rattle.nr_spec_log.specs.Answer.{Opening, opening_at, answer_magic, body_at, is_first, is_prev, is_body_flag, is_later, most_first, most_body}
-use Rattle.nr_laws_log.specs.Laws.{IsBytes, Takes, ReadsSpelled, SpelledReads}
+use Rattle.nr_laws_log.specs.Laws.{Takes, ReadsSpelled, SpelledReads}
 use Rattle.nr_laws_log.proofs.Fields.{Takes-then, step, number_text, text_step, text_again, bytes_step, bytes_again, wants_step, reads_then, wants_then}
 use Rattle.nr_laws_log.proofs.RowLaws.{magic_takes, magic_again}
 

@@ -6,10 +6,10 @@ use Rattle.std.proofs.lemmas.Bool.{eqb-true, ne_eqb}
 use Rattle.std.proofs.lemmas.List.{length-append, append-nil, nil_from_length}
 use Rattle.std.proofs.lemmas.List.Concat.{flat_map-cons}
 use Rattle.std.proofs.lemmas.Slice.Eq.{bytes_eq-Decides}
-use Rattle.nr_spec_wire.specs.Reading.{Spot, Read, start_of, wants, rows_at}
+use Rattle.nr_spec_wire.specs.Reading.{Spot, Read, start_of, wants, rows_at, IsBytes}
 use Rattle.nr_spec_wire.proofs.Steps.{ok_is, bind_ok, wants_ok}
 use Rattle.nr_spec_log.specs.Authenticator.{Authenticator, IsAuthenticator, AreAuthenticators, authenticator, authenticator_at, auths_file, auths_magic, auths_of, magic_at}
-use Rattle.nr_laws_log.specs.Laws.{IsBytes, Takes, ReadsSpelled, SpelledReads}
+use Rattle.nr_laws_log.specs.Laws.{Takes, ReadsSpelled, SpelledReads}
 use Rattle.nr_laws_log.proofs.Fields.{Takes-then, step, bytes_step, bytes_again, reads_then}
 use Rattle.nr_laws_log.proofs.AuthenticatorLaws.{authenticator_takes, authenticator_again}
 

@@ -1,13 +1,9 @@
 -- What it means that a form of values has one spelling, which is what its reading takes.
-use Rattle.std.specs.Prelude.{◌≡◌, ℕ, ◌+◌, ◌<◌, ◌≤◌, Bool, true, List, ◌++◌, length, get_or, Option, None, Some, Ok}
-use Rattle.nr_spec_wire.specs.Reading.{Spot, Read}
+use Rattle.std.specs.Prelude.{◌≡◌, ℕ, ◌+◌, ◌≤◌, Bool, true, List, ◌++◌, length, Option, None, Some, Ok}
+use Rattle.nr_spec_wire.specs.Reading.{Spot, Read, IsBytes}
 use Rattle.nr_spec_log.specs.Chain.{LogEntry}
 use Rattle.nr_spec_log.specs.Authenticator.{Authenticator, IsAuthenticator, Head, digest_size}
 use Rattle.nr_spec_log.specs.Answer.{IsEntry, AreEntriesFrom, IsCheckpointFirst, checkpoint_kind}
-
--- each is below 256
-abbrev pub IsBytes : List ℕ → Type 0
-IsBytes bytes = (i : ℕ) → get_or bytes i 0 < 256
 
 -- from the one spot to the other there stands this text
 pub record Takes (s : Spot) (text : List ℕ) (new : Spot) : Type 0 where

@@ -1,9 +1,9 @@
 //! Whole files.
 
 ghost use Rattle.std.specs.Prelude.{◌≡◌, ℕ, List, Ok};
+ghost use Rattle.nr_spec_wire.specs.Reading.{IsBytes};
 ghost use Rattle.nr_spec_log.specs.Authenticator.{Authenticator, AreAuthenticators, auths_of, auths_file};
 ghost use Rattle.nr_spec_log.specs.Answer.{AnswerFile, IsAnswer, answer_of, answer_file};
-ghost use Rattle.nr_laws_log.specs.Laws.{IsBytes};
 
 /// What is read as a file of authenticators fits, and the file is its spelling, all of it.
 pub fn auths_file_found()

@@ -13,6 +13,8 @@ mod keys;
 #[cfg(test)]
 mod ports;
 #[cfg(test)]
+mod promises;
+#[cfg(test)]
 mod routes;
 #[cfg(test)]
 mod words;

@@ -1,6 +1,4 @@
-use Rattle.std.proofs.Common.{sym, ap, ◌∙◌, arith, length, Option, ℕ}
-use Rattle.std.specs.Prelude.{option_map}
-use Rattle.std.specs.Result.{result_err}
+use Rattle.std.proofs.Common.{sym, ◌∙◌, arith, length}
 use Rattle.std.proofs.lemmas.Result.{err_from_is_err_and}
 use Rattle.nr_spec_wire.proofs.Steps.{fault-goes, fault-fails, fault-done, fault-ends}
 use Rattle.nr_spec_log.specs.Authenticator.{authenticator_at}

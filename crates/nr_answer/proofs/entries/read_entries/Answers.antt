@@ -1,4 +1,4 @@
-use Rattle.std.proofs.Common.{◌≡◌, sym, ap, subst, ◌∙◌, Ok, Err, rules}
+use Rattle.std.proofs.Common.{◌≡◌, sym, ap, subst, ◌∙◌, Err, rules}
 use Rattle.std.proofs.lemmas.Result.{err_from_is_err_and}
 use Rattle.nr_spec_wire.specs.Reading.{Spot}
 use Rattle.nr_spec_log.specs.Answer.{entries_at}

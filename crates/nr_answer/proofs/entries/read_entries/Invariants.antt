@@ -1,4 +1,4 @@
-use Rattle.std.proofs.Common.{◌≡◌, ◌-◌, ◌+◌, ◌≤◌, length}
+use Rattle.std.proofs.Common.{◌≡◌, ◌-◌}
 use Rattle.nr_spec_wire.specs.Reading.{IsOnward}
 use Rattle.nr_spec_log.specs.Answer.{entries_at}
 use Rattle.nr_spec_log.proofs.EntrySteps.{ending}

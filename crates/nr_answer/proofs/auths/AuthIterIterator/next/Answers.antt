@@ -1,4 +1,4 @@
-use Rattle.std.proofs.Common.{◌≡◌, ◌∷◌, length, sym, ap, ◌∙◌, arith}
+use Rattle.std.proofs.Common.{length, sym, ap, ◌∙◌, arith}
 use Rattle.nr_spec_wire.specs.Reading.{rows, fault, rows_at}
 use Rattle.nr_spec_wire.proofs.Steps.{steps, values-spent, values-end, values-more, values-fault}
 use Rattle.nr_spec_log.specs.Authenticator.{authenticator_at}

@@ -1,4 +1,4 @@
-use Rattle.std.proofs.Common.{◌≡◌, ◌∷◌, length, sym, ap, ◌∙◌, arith}
+use Rattle.std.proofs.Common.{length, sym, ap, ◌∙◌, arith}
 use Rattle.nr_spec_wire.specs.Reading.{rows, fault}
 use Rattle.nr_spec_wire.proofs.Steps.{steps}
 use Rattle.nr_spec_log.proofs.EntrySteps.{entries-none, entries-more, entries-fault}

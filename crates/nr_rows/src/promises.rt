@@ -1,0 +1,412 @@
+//! The language of promises: what is printed for a text, and where a text is refused.
+
+use nr_bytes::Place;
+use nr_rule_syntax::{ParseError, parse, print};
+use std::test::Fail;
+
+const MOST: usize = 1_048_576;
+
+// A text, and the one that is printed for it.
+const PRINTED: [(&[u8], &[u8]); 41] = [
+    (b"", b""),
+    (
+        b"network 64500; commit 60;\n",
+        b"network 64500;\ncommit 60;\n",
+    ),
+    (b"network 64500;", b"network 64500;\n"),
+    (
+        b"network 0;commit 4294967295;",
+        b"network 0;\ncommit 4294967295;\n",
+    ),
+    (b"// a comment\nnetwork\t1\r\n;// another", b"network 1;\n"),
+    (
+        b"neighbour p as 64501 at 192.0.2.1;",
+        b"neighbour p as 64501 at 192.0.2.1;\n",
+    ),
+    (
+        b"neighbour p as 1 at 0.0.0.0 root #AbAbAbAbAbAbAbAbAbAbAbAbAbAbAbAbAbAbAbAbAbAbAbAbAbAbAbAbAbAbAbAb number 3;",
+        b"neighbour p as 1 at 0.0.0.0 root #abababababababababababababababababababababababababababababababab number 3;\n",
+    ),
+    (b"group g=a,b , c;", b"group g = a, b, c;\n"),
+    (b"define d = 10.1.2.3/8;", b"define d = 10.0.0.0/8;\n"),
+    (
+        b"define d=198.51.100.0/24 le 26,203.0.113.0/24;",
+        b"define d = 198.51.100.0/24 le 26, 203.0.113.0/24;\n",
+    ),
+    (
+        b"promise t grace 30{true}",
+        b"promise t grace 30 { true }\n",
+    ),
+    (
+        b"promise t grace 0 at 10.0.0.0/8,11.0.0.1/32 { false }",
+        b"promise t grace 0 at 10.0.0.0/8, 11.0.0.1/32 { false }\n",
+    ),
+    (
+        b"promise t grace 0 { not not true }",
+        b"promise t grace 0 { not not true }\n",
+    ),
+    (
+        b"promise t grace 0 { true and false and true }",
+        b"promise t grace 0 { true and false and true }\n",
+    ),
+    (
+        b"promise t grace 0 { true or false or true }",
+        b"promise t grace 0 { true or false or true }\n",
+    ),
+    (
+        b"promise t grace 0 { ((true and false) or true) }",
+        b"promise t grace 0 { true and false or true }\n",
+    ),
+    (
+        b"promise t grace 0 { true and (false or true) }",
+        b"promise t grace 0 { true and (false or true) }\n",
+    ),
+    (
+        b"promise t grace 0 { true implies false implies true }",
+        b"promise t grace 0 { true implies false implies true }\n",
+    ),
+    (
+        b"promise t grace 0 { (true implies false) implies true }",
+        b"promise t grace 0 { (true implies false) implies true }\n",
+    ),
+    (
+        b"promise t grace 0 { true implies (false implies true) }",
+        b"promise t grace 0 { true implies false implies true }\n",
+    ),
+    (
+        b"promise t grace 0 { not (true or false) }",
+        b"promise t grace 0 { not (true or false) }\n",
+    ),
+    (
+        b"promise t grace 0 { not (true and false) }",
+        b"promise t grace 0 { not (true and false) }\n",
+    ),
+    (
+        b"promise t grace 0 { not (true implies false) }",
+        b"promise t grace 0 { not (true implies false) }\n",
+    ),
+    (
+        b"promise t grace 0 { (true implies false) or true }",
+        b"promise t grace 0 { (true implies false) or true }\n",
+    ),
+    (
+        b"promise t grace 0 { (true or false) implies (true and false) }",
+        b"promise t grace 0 { true or false implies true and false }\n",
+    ),
+    (
+        b"promise t grace 0 { (true and false) and true }",
+        b"promise t grace 0 { (true and false) and true }\n",
+    ),
+    (
+        b"promise t grace 0 { (true or false) or true }",
+        b"promise t grace 0 { (true or false) or true }\n",
+    ),
+    (
+        b"promise t grace 0 { not ((true or false) and (false or true)) }",
+        b"promise t grace 0 { not ((true or false) and (false or true)) }\n",
+    ),
+    (
+        b"promise t grace 0 { all n in g{some m in g{n is m}} }",
+        b"promise t grace 0 { all n in g { some m in g { n is m } } }\n",
+    ),
+    (
+        b"promise t grace 0 { if r=sent ( n )then r has 65000:1 else received(n) end }",
+        b"promise t grace 0 { if r = sent(n) then r has 65000:1 else received(n) end }\n",
+    ),
+    (
+        b"promise t grace 0 { r crosses asn(n) }",
+        b"promise t grace 0 { r crosses asn(n) }\n",
+    ),
+    (
+        b"promise t grace 0 { prefix in d }",
+        b"promise t grace 0 { prefix in d }\n",
+    ),
+    (
+        b"promise t grace 0 { bits=8 }",
+        b"promise t grace 0 { bits = 8 }\n",
+    ),
+    (
+        b"promise t grace 0 { hop(r)!=192.0.2.1 }",
+        b"promise t grace 0 { hop(r) != 3221225985 }\n",
+    ),
+    (
+        b"promise t grace 0 { length(r)<med(r) }",
+        b"promise t grace 0 { length(r) < med(r) }\n",
+    ),
+    (
+        b"promise t grace 0 { pref(r)<=origin(r) }",
+        b"promise t grace 0 { pref(r) <= origin(r) }\n",
+    ),
+    (
+        b"promise t grace 0 { first(r)>last(r) }",
+        b"promise t grace 0 { first(r) > last(r) }\n",
+    ),
+    (
+        b"promise t grace 0 { 0>=4294967295 }",
+        b"promise t grace 0 { 0 >= 4294967295 }\n",
+    ),
+    (b"network 1;//8", b"network 1;\n"),
+    (b"group g1//c\n = a;", b"group g1 = a;\n"),
+    (
+        b"group aaaaaaaaaaaaaaaaaaaaaaaaaaaaaaaa = b;",
+        b"group aaaaaaaaaaaaaaaaaaaaaaaaaaaaaaaa = b;\n",
+    ),
+];
+
+// The examples of `docs/promises.md`: each with the one text that is printed for it.
+const EXAMPLES: [(&[u8], &[u8]); 4] = [
+    (
+        b"network 64500;\ncommit 60;\nneighbour transit as 64510 at 192.0.2.10;\nneighbour peer_a as 64511 at 192.0.2.11;\nneighbour peer_b as 64512 at 192.0.2.12;\ngroup peers = peer_a, peer_b;\n\n// Routes that carry 64500:666 stay inside.\npromise no_export grace 30 {\n  all n in peers { if r = sent(n) then not r has 64500:666 else true end }\n}\n",
+        b"network 64500;\ncommit 60;\nneighbour transit as 64510 at 192.0.2.10;\nneighbour peer_a as 64511 at 192.0.2.11;\nneighbour peer_b as 64512 at 192.0.2.12;\ngroup peers = peer_a, peer_b;\npromise no_export grace 30 { all n in peers { if r = sent(n) then not r has 64500:666 else true end } }\n",
+    ),
+    (
+        b"network 64500;\ncommit 60;\nneighbour customer as 64520 at 192.0.2.20;\nneighbour peer_a as 64511 at 192.0.2.11;\n\npromise prefer_customer grace 60 {\n  if s = sent(peer_a)\n  then received(customer) implies s crosses asn(customer)\n  else true end\n}\n",
+        b"network 64500;\ncommit 60;\nneighbour customer as 64520 at 192.0.2.20;\nneighbour peer_a as 64511 at 192.0.2.11;\npromise prefer_customer grace 60 { if s = sent(peer_a) then received(customer) implies s crosses asn(customer) else true end }\n",
+    ),
+    (
+        b"network 64500;\ncommit 60;\nneighbour peer_a as 64511 at 192.0.2.11;\nneighbour peer_b as 64512 at 192.0.2.12;\ngroup peers = peer_a, peer_b;\ndefine own = 198.51.100.0/24 le 26, 203.0.113.0/24;\n\npromise only_own grace 0 {\n  all n in peers { sent(n) implies prefix in own }\n}\n",
+        b"network 64500;\ncommit 60;\nneighbour peer_a as 64511 at 192.0.2.11;\nneighbour peer_b as 64512 at 192.0.2.12;\ngroup peers = peer_a, peer_b;\ndefine own = 198.51.100.0/24 le 26, 203.0.113.0/24;\npromise only_own grace 0 { all n in peers { sent(n) implies prefix in own } }\n",
+    ),
+    (
+        b"network 64500;\ncommit 60;\nneighbour transit_a as 64510 at 192.0.2.10;\nneighbour transit_b as 64513 at 192.0.2.13;\ngroup upstreams = transit_a, transit_b;\n\npromise reachable grace 300 at 203.0.113.0/24, 198.51.100.0/24 {\n  some n in upstreams { sent(n) }\n}\n",
+        b"network 64500;\ncommit 60;\nneighbour transit_a as 64510 at 192.0.2.10;\nneighbour transit_b as 64513 at 192.0.2.13;\ngroup upstreams = transit_a, transit_b;\npromise reachable grace 300 at 203.0.113.0/24, 198.51.100.0/24 { some n in upstreams { sent(n) } }\n",
+    ),
+];
+
+// A text, and the offset of the token that is refused.
+const REFUSED: [(&[u8], u64); 95] = [
+    // The example of docs/promises.md.
+    (
+        b"network 64500;\ncommit 60;\nneighbour p as 64501 at 192.0.2.1;\ngroup peers = p;\npromise t grace 0 { all n in peers { if r = sent(n) then r has 65000:1 end } }\n",
+        149,
+    ),
+    (b"network 01;", 8),
+    (b"network 4294967296;", 8),
+    (b"network 1.2;", 8),
+    (b"network 1//x", 8),
+    (b"network 1;/", 10),
+    (b"network 1; // \x80", 14),
+    (b"_a", 0),
+    (b"network 1.2.3.256;", 8),
+    (b"define d = 10.0.0.0/33;", 11),
+    (b"define d = 10.0.0.0/08;", 11),
+    (b"define d = 10.0.0/8;", 11),
+    (b"promise t grace 0 { r has 65536:1 }", 26),
+    (b"promise t grace 0 { r has 1:65536 }", 26),
+    (b"promise t grace 0 { r has 1:02 }", 26),
+    (b"group aaaaaaaaaaaaaaaaaaaaaaaaaaaaaaaaa = b;", 6),
+    (
+        b"neighbour p as 1 at 1.1.1.1 root #aaaaaaaaaaaaaaaaaaaaaaaaaaaaaaaaaaaaaaaaaaaaaaaaaaaaaaaaaaaaaaa number 1;",
+        33,
+    ),
+    (
+        b"neighbour p as 1 at 1.1.1.1 root #aaaaaaaaaaaaaaaaaaaaaaaaaaaaaaaaaaaaaaaaaaaaaaaaaaaaaaaaaaaaaaag number 1;",
+        33,
+    ),
+    (b"group g ! a;", 8),
+    (b"group g & a;", 8),
+    (b"network 1.5;", 8),
+    (b"true", 0),
+    (b"network ;", 8),
+    (b"network 1", 9),
+    (b"network 1 network 2;", 10),
+    (b"commit a;", 7),
+    (b"commit 1 }", 9),
+    (b"neighbour 1 as 2;", 10),
+    (b"neighbour as as 2;", 10),
+    (b"neighbour p at 1;", 12),
+    (b"neighbour p as p;", 15),
+    (b"neighbour p as 1 as;", 17),
+    (b"neighbour p as 1 at 1;", 20),
+    (b"neighbour p as 1 at 1.1.1.1 number 1;", 28),
+    (b"neighbour p as 1 at 1.1.1.1 root 1;", 33),
+    (
+        b"neighbour p as 1 at 1.1.1.1 root #aaaaaaaaaaaaaaaaaaaaaaaaaaaaaaaaaaaaaaaaaaaaaaaaaaaaaaaaaaaaaaaa ;",
+        99,
+    ),
+    (
+        b"neighbour p as 1 at 1.1.1.1 root #aaaaaaaaaaaaaaaaaaaaaaaaaaaaaaaaaaaaaaaaaaaaaaaaaaaaaaaaaaaaaaaa number ;",
+        106,
+    ),
+    (
+        b"neighbour p as 1 at 1.1.1.1 root #aaaaaaaaaaaaaaaaaaaaaaaaaaaaaaaaaaaaaaaaaaaaaaaaaaaaaaaaaaaaaaaa number 1 root",
+        108,
+    ),
+    (b"neighbour p as 1 at 1.1.1.1", 27),
+    (b"group network = a;", 6),
+    (b"group g a;", 8),
+    (b"group g = ;", 10),
+    (b"group g = a b;", 12),
+    (b"group g = a, ;", 13),
+    (b"define d = ;", 11),
+    (b"define d = 10.0.0.0;", 11),
+    (b"define d = 10.0.0.0/8 at;", 22),
+    (b"define d = 10.0.0.0/8 le le;", 25),
+    (b"define d = 10.0.0.0/8, ;", 23),
+    (b"promise grace 0 { true }", 8),
+    (b"promise t 0 { true }", 10),
+    (b"promise t grace { true }", 16),
+    (b"promise t grace 0 true", 18),
+    (b"promise t grace 0 at { true }", 21),
+    (b"promise t grace 0 at 1.0.0.0/8 le 9 { true }", 31),
+    (b"promise t grace 0 { }", 20),
+    (b"promise t grace 0 { true ;", 25),
+    (b"promise t grace 0 { true", 24),
+    (b"promises", 0),
+    (b"promise t grace 0 { not and }", 24),
+    (b"promise t grace 0 { true and or true }", 29),
+    (b"promise t grace 0 { true or and true }", 28),
+    (b"promise t grace 0 { true implies implies true }", 33),
+    (b"promise t grace 0 { () }", 21),
+    (b"promise t grace 0 { (true true) }", 26),
+    (b"promise t grace 0 { true ) }", 25),
+    (b"promise t grace 0 { all in g { true } }", 24),
+    (b"promise t grace 0 { all n g { true } }", 26),
+    (b"promise t grace 0 { all n in all { true } }", 29),
+    (b"promise t grace 0 { all n in g true }", 31),
+    (b"promise t grace 0 { all n in g { true ) }", 38),
+    (b"promise t grace 0 { some 1 in g { true } }", 25),
+    (
+        b"promise t grace 0 { if = sent(n) then true else true end }",
+        23,
+    ),
+    (
+        b"promise t grace 0 { if r sent(n) then true else true end }",
+        25,
+    ),
+    (
+        b"promise t grace 0 { if r = n then true else true end }",
+        27,
+    ),
+    (
+        b"promise t grace 0 { if r = sent(n) true else true end }",
+        35,
+    ),
+    (b"promise t grace 0 { if r = sent(n) then true end }", 45),
+    (
+        b"promise t grace 0 { if r = sent(n) then true else true else }",
+        55,
+    ),
+    (b"promise t grace 0 { sent n }", 25),
+    (b"promise t grace 0 { sent(sent) }", 25),
+    (b"promise t grace 0 { received(n n) }", 31),
+    (b"promise t grace 0 { r = 1 }", 22),
+    (b"promise t grace 0 { r has 1 }", 26),
+    (b"promise t grace 0 { r crosses r }", 30),
+    (b"promise t grace 0 { r is 1 }", 25),
+    (b"promise t grace 0 { prefix d }", 27),
+    (b"promise t grace 0 { prefix in 10.0.0.0/8 }", 30),
+    (b"promise t grace 0 { 1 1 }", 22),
+    (b"promise t grace 0 { 1 = r }", 24),
+    (b"promise t grace 0 { 1 = true }", 24),
+    (b"promise t grace 0 { length r }", 27),
+    (b"promise t grace 0 { length(1) }", 27),
+    (b"promise t grace 0 { asn(n }", 26),
+    (b"promise t grace 0 { bits and true }", 25),
+    (b"promise t grace 0 { 1 = 2 = 3 }", 26),
+];
+
+// What opens a level, how far into it the token stands that does, and what closes the level.
+const LEVELS: [(&[u8], u64, &[u8]); 6] = [
+    (b"not ", 0, b""),
+    (b"(", 0, b")"),
+    (b"true implies ", 5, b""),
+    (b"all n in g { ", 0, b" }"),
+    (b"some n in g { ", 0, b" }"),
+    (b"if r = sent(n) then ", 0, b" else true end"),
+];
+
+#[test]
+fn prints_one_text(rt: HostRuntime) -> Result<(), Fail> {
+    for (text, expected) in &PRINTED {
+        if text.len() <= MOST {
+            let file = parse(rt.alloc(), text).ok().ok_or("refused")?;
+            let printed = print(rt.alloc(), &file).ok().ok_or("memory")?;
+            assert_eq!(rt; printed.as_slice(), *expected);
+        }
+    }
+    Ok(())
+}
+
+#[test]
+fn prints_the_examples(rt: HostRuntime) -> Result<(), Fail> {
+    for (text, expected) in &EXAMPLES {
+        if text.len() <= MOST {
+            let file = parse(rt.alloc(), text).ok().ok_or("refused")?;
+            let printed = print(rt.alloc(), &file).ok().ok_or("memory")?;
+            assert_eq!(rt; printed.as_slice(), *expected);
+        }
+    }
+    Ok(())
+}
+
+#[test]
+fn reads_what_it_prints(rt: HostRuntime) -> Result<(), Fail> {
+    for (_, text) in &PRINTED {
+        if text.len() <= MOST {
+            let file = parse(rt.alloc(), text).ok().ok_or("refused")?;
+            let printed = print(rt.alloc(), &file).ok().ok_or("memory")?;
+            assert_eq!(rt; printed.as_slice(), *text);
+        }
+    }
+    Ok(())
+}
+
+#[test]
+fn refuses_at_the_first_token(rt: HostRuntime) {
+    for (text, expected) in &REFUSED {
+        if text.len() <= MOST {
+            let place = match parse(rt.alloc(), text) {
+                Err(ParseError::At(Place(place))) => place,
+                Err(ParseError::Memory) => 1_000_001,
+                Ok(_) => 1_000_000,
+            };
+            assert_eq!(rt; (*text, place), (*text, *expected));
+        }
+    }
+}
+
+#[test]
+fn opens_64_levels(rt: HostRuntime) -> Result<(), Fail> {
+    for (open, _, close) in &LEVELS {
+        let mut text = Vec::new(rt.alloc());
+        text.extend_from_slice(b"promise t grace 0 { ")?;
+        for _ in 0..64 {
+            text.extend_from_slice(open)?;
+        }
+        text.extend_from_slice(b"true")?;
+        for _ in 0..64 {
+            text.extend_from_slice(close)?;
+        }
+        text.extend_from_slice(b" }")?;
+        if text.len() <= MOST {
+            assert!(rt; parse(rt.alloc(), &text).is_ok());
+        }
+    }
+    Ok(())
+}
+
+#[test]
+fn refuses_level_65(rt: HostRuntime) -> Result<(), Fail> {
+    for (open, within, _) in &LEVELS {
+        let mut text = Vec::new(rt.alloc());
+        text.extend_from_slice(b"promise t grace 0 { ")?;
+        for _ in 0..65 {
+            text.extend_from_slice(open)?;
+        }
+        if text.len() <= MOST {
+            let place = match parse(rt.alloc(), &text) {
+                Err(ParseError::At(Place(place))) => place,
+                _ => 1_000_000,
+            };
+            assert!(rt; place / 64 <= 1_000_000);
+            assert_eq!(rt;
+                place.checked_sub(20),
+                (open.len() as u64)
+                    .checked_mul(64)
+                    .map_or(None, |n| n.checked_add(*within))
+            );
+        }
+    }
+    Ok(())
+}
