@@ -20,8 +20,8 @@ impl Model for Word {
 }
 
 impl Word {
-    // A word of these bytes.
-    pub(crate) fn from_slice(alloc: Global, bytes: &[u8]) -> Result<Word, AllocError>
+    /// A word of these bytes, as the layers above copy words.
+    pub fn from_slice(alloc: Global, bytes: &[u8]) -> Result<Word, AllocError>
         ensures { IfOk result (λ word. word ≡ bytes.now) }
     {
         let bytes = Vec::from_slice(alloc, bytes)?;
