@@ -15,3 +15,4 @@ mod Spells
 mod SpellsForms
 mod SpellsFiles
 mod Back
+mod BareTexts

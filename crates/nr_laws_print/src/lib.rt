@@ -4,4 +4,4 @@
 
 mod print;
 
-pub use print::{printed_text_is_read, written_file_is_read_back};
+pub use print::{one_text_for_what_is_said, printed_text_is_read, written_file_is_read_back};
