@@ -5,14 +5,14 @@ use Rattle.nr_spec_rules.specs.declared.kind.Kind.TheVariants as k
 use Rattle.nr_spec_rules.specs.Tokens.{Token, same_kind, kind_of, place_of, span_of, goes_on}
 use Rattle.nr_spec_rules.specs.Parsing as read
 use Rattle.nr_spec_rules.specs.Parsing.{Parser, Outcome, and_then, sees, others, following, until}
-use Rattle.nr_laws_rules.specs.Words as words
-use Rattle.nr_laws_rules.specs.Words.{Words, token, many, some}
+use Rattle.nr_laws_rules.specs.Productions as words
+use Rattle.nr_laws_rules.specs.Productions.{StandsFor, token, many, some}
 use Rattle.nr_laws_rules.proofs.KindLaws.{kinds_same, same_kinds, Free, SameFirst, same_behind, sees_alike, AllGo, all_joined}
 use Rattle.nr_laws_rules.proofs.Steps.{IsTaken, Traced, Complete, Decides, taken_here, refused_here, widened, Leads, Follows, Goes, one_goes, bind_goes, gives_goes, not_both, bind_traced, bound, pure_decides, pure_traced, maybe_decides}
 
 -- ---- a reading with a bound, of which the number of tokens is enough
 
-pub record IsTakenWithin {A : Type 0} (p : ℕ → Parser A) (R : Words A) (ts : List Token) : Type 0 where
+pub record IsTakenWithin {A : Type 0} (p : ℕ → Parser A) (R : StandsFor A) (ts : List Token) : Type 0 where
   pub before : List Token
   pub rest : List Token
   pub value : A
@@ -20,7 +20,7 @@ pub record IsTakenWithin {A : Type 0} (p : ℕ → Parser A) (R : Words A) (ts :
   pub is : R before value
   pub alike : (n : ℕ) (y : List Token) → SameFirst rest y → length (before ++ y) ≤ n → p n (before ++ y) ≡ Ok (value, y)
 
-pub record IsRefusedWithin {A : Type 0} (p : ℕ → Parser A) (R : Words A) (ts : List Token) : Type 0 where
+pub record IsRefusedWithin {A : Type 0} (p : ℕ → Parser A) (R : StandsFor A) (ts : List Token) : Type 0 where
   pub before : List Token
   pub rest : List Token
   pub split : ts ≡ before ++ rest
@@ -29,10 +29,10 @@ pub record IsRefusedWithin {A : Type 0} (p : ℕ → Parser A) (R : Words A) (ts
   pub value : A
   pub goes_on : R (before ++ more) value
 
-abbrev pub TracedWithin : {A : Type 0} → (ℕ → Parser A) → Words A → List Token → Type 0
+abbrev pub TracedWithin : {A : Type 0} → (ℕ → Parser A) → StandsFor A → List Token → Type 0
 TracedWithin p R ts = IsTakenWithin p R ts ⊎ IsRefusedWithin p R ts
 
-pub unbounded : {A : Type 0} {p : ℕ → Parser A} {R : Words A} {ts : List Token} → TracedWithin p R ts → Traced (λ us. p (length us) us) R ts
+pub unbounded : {A : Type 0} {p : ℕ → Parser A} {R : StandsFor A} {ts : List Token} → TracedWithin p R ts → Traced (λ us. p (length us) us) R ts
 unbounded (inl t) = inl (record { before = t.before; rest = t.rest; value = t.value; split = t.split; is = t.is; alike = λ y s. t.alike (length (t.before ++ y)) y s (omega arith) })
 unbounded (inr r) = inr (record {
   before = r.before;
@@ -45,11 +45,11 @@ unbounded (inr r) = inr (record {
 })
 
 -- some are any number
-pub some_many : {A : Type 0} (R : Words A) (w : List Token) (list : List A) → some R w list → many R w list
+pub some_many : {A : Type 0} (R : StandsFor A) (w : List Token) (list : List A) → some R w list → many R w list
 some_many R w [] h = absurd h
 some_many R w (a ∷ list) h = h
 
-widened_within : {A : Type 0} {p : ℕ → Parser (List A)} {R : Words A} {ts : List Token} → TracedWithin p (some R) ts → TracedWithin p (many R) ts
+widened_within : {A : Type 0} {p : ℕ → Parser (List A)} {R : StandsFor A} {ts : List Token} → TracedWithin p (some R) ts → TracedWithin p (many R) ts
 widened_within {R = R} (inl t) = inl (record { before = t.before; rest = t.rest; value = t.value; split = t.split; is = some_many R t.before t.value t.is; alike = t.alike })
 widened_within {R = R} (inr r) = inr (record {
   before = r.before;
@@ -68,8 +68,8 @@ shorter : (t : Token) (front rest ts : List Token) (n : ℕ) → ts ≡ front ++
 shorter t front rest ts n e h = omega (arith, length-append front rest, ap length e)
 
 -- one behind a token between, and the others
-module _ {A : Type 0} (between : Kind) (item : Parser A) (R : Words A) (ne : same_kind k.End between ≡ false) (ht : (ts : List Token) → Traced item R ts) where
-  abbrev Each : Words A
+module _ {A : Type 0} (between : Kind) (item : Parser A) (R : StandsFor A) (ne : same_kind k.End between ≡ false) (ht : (ts : List Token) → Traced item R ts) where
+  abbrev Each : StandsFor A
   Each = words.◌>>◌ (token between) R
 
   more_traced : (n : ℕ) → ((ts : List Token) → length ts ≤ n → TracedWithin (others between item) (many Each) ts)
@@ -168,12 +168,12 @@ module _ {A : Type 0} (between : Kind) (item : Parser A) (R : Words A) (ne : sam
 -- ---- words of a chain are taken
 
 -- what follows a part of a chain: a token between, or what follows the chain
-others_follow : {A : Type 0} (between : Kind) (R : Words A) (inner : List Kind) → Free inner between
+others_follow : {A : Type 0} (between : Kind) (R : StandsFor A) (inner : List Kind) → Free inner between
     → (w : List Token) (list : List A) (after : List Token) → many (words.◌>>◌ (token between) R) w list → Free inner (kind_of after) → Free inner (kind_of (w ++ after))
 others_follow between R inner fine w [] after e free = rw e free
 others_follow between R inner fine w (a ∷ list) after (front, back, e, (span, f, g, e1, (t, alone, is, place), r), m) free = rw (e, e1, alone, is) fine
 
-others_taken : {A : Type 0} (between : Kind) (item : Parser A) (R : Words A) (inner : List Kind) → Free inner between → Complete item R inner
+others_taken : {A : Type 0} (between : Kind) (item : Parser A) (R : StandsFor A) (inner : List Kind) → Free inner between → Complete item R inner
     → (list : List A) (n : ℕ) (w after : List Token) → many (words.◌>>◌ (token between) R) w list → Free (between ∷ inner) (kind_of after) → length (w ++ after) ≤ n
     → others between item n (w ++ after) ≡ Ok (list, after)
 unfolding others
@@ -199,20 +199,20 @@ others_taken {A} between item R inner fine hc (a ∷ list) n w after (front, bac
 
 -- ---- the tokens of a chain
 
-pub many_goes : {A : Type 0} {R : Words A} → Goes R → Goes (many R)
+pub many_goes : {A : Type 0} {R : StandsFor A} → Goes R → Goes (many R)
 many_goes {A} {R} h = record { all = λ w list m. all list w m }
   where
     all : (list : List A) (w : List Token) → many R w list → AllGo w
     all [] w e = rw e tt
     all (a ∷ list) w (front, back, e, r, m) = rw e (all_joined front back (h.all front a r) (all list back m))
 
-some_goes : {A : Type 0} {R : Words A} → Goes R → Goes (some R)
+some_goes : {A : Type 0} {R : StandsFor A} → Goes R → Goes (some R)
 some_goes {A} {R} h = record { all = λ w list m. (many_goes h).all w list (some_many R w list m) }
 
 -- ---- lists
 
 -- what is read as any number, and what is made of it
-module _ {A : Type 0} {item : Parser A} {R : Words A} {inner : List Kind} (between : Kind) (ne : same_kind k.End between ≡ false) (go : goes_on between ≡ true) (fine : Free inner between) (h : Decides item R inner) where
+module _ {A : Type 0} {item : Parser A} {R : StandsFor A} {inner : List Kind} (between : Kind) (ne : same_kind k.End between ≡ false) (go : goes_on between ≡ true) (fine : Free inner between) (h : Decides item R inner) where
   others_decide : Decides (λ ts. others between item (length ts) ts) (many (words.◌>>◌ (token between) R)) (between ∷ inner)
   others_decide = record {
     traced = λ ts. unbounded (others_traced between item R ne h.traced (length ts) ts (omega arith));
@@ -261,7 +261,7 @@ module _ {A : Type 0} {item : Parser A} {R : Words A} {inner : List Kind} (betwe
           let taken = others_taken between item R inner fine h.complete more (length (front ++ after)) front after (some_many (words.◌>>◌ (token between) R) front more m) free (omega arith) in
           rw (same, taken, made) refl
 
-  some_leads : {B : Type 0} (S : List A → Words B) → Leads between (words.◌>>=◌ (some (words.◌>>◌ (token between) R)) S)
+  some_leads : {B : Type 0} (S : List A → StandsFor B) → Leads between (words.◌>>=◌ (some (words.◌>>◌ (token between) R)) S)
   some_leads {B} S = record { leads = leads }
     where
       leads : (w : List Token) (b : B) (after : List Token) → words.◌>>=◌ (some (words.◌>>◌ (token between) R)) S w b → kind_of (w ++ after) ≡ between
@@ -295,7 +295,7 @@ behind_read : {A : Type 0} (a : A) (list : List A) (rest : List Token) (o : Outc
 behind_read {A} a list rest (Ok p) e = let more : List A = p.0 in (p.0, ap (λ (x : List Token). Ok (more, x)) (same_rest (a ∷ p.0) list p.1 rest e))
 behind_read a list rest (Err p) e = absurd cc
 
-module _ {A : Type 0} (item : Parser A) (R : Words A) (begins : (w : List Token) (a : A) (after : List Token) → R w a → sees k.End (w ++ after) ≡ false) (ht : (ts : List Token) → Traced item R ts) where
+module _ {A : Type 0} (item : Parser A) (R : StandsFor A) (begins : (w : List Token) (a : A) (after : List Token) → R w a → sees k.End (w ++ after) ≡ false) (ht : (ts : List Token) → Traced item R ts) where
   not_empty : (w : List Token) (a : A) (rest ts : List Token) (n : ℕ) → R w a → ts ≡ w ++ rest → length ts ≤ suc n → length rest ≤ n
   unfolding same_kind
   not_empty [] a rest ts n r e short = absurd (cc (begins [] a [] r))

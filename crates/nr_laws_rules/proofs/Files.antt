@@ -1,6 +1,7 @@
 -- Whole files: reading is the grammar, and a refusal stands at the first token that the grammar refuses.
 use Rattle.std.proofs.Common.{◌≡◌, ℕ, true, false, List, [], ◌∷◌, ◌++◌, length, Result, Ok, Err, refl, sym, ap, subst, ◌∙◌, append_assoc, inl, inr, ◌⊎◌, arith}
 use Rattle.nr_spec_rules.specs.declared.kind.Kind.TheVariants as k
+use Rattle.nr_spec_rules.specs.declared.span.Span.{Span}
 use Rattle.nr_spec_rules.specs.Tokens.{Token, same_kind, place_of, span_of, tokens_at, tokens_of, goes_on}
 use Rattle.nr_spec_rules.specs.Endings.{IsEnded}
 use Rattle.nr_spec_rules.specs.Parsing.{sees}
@@ -9,12 +10,13 @@ use Rattle.nr_rule_syntax.specs.declared.tree.Decl.{Decl}
 use Rattle.nr_rule_syntax.specs.declared.tree.File.{File}
 use Rattle.nr_rule_syntax.specs.Reading as read
 use Rattle.nr_rule_syntax.specs.Reading.{file_of, file_in}
-use Rattle.nr_laws_rules.specs.Words.{many}
+use Rattle.nr_laws_rules.specs.Productions.{many}
 use Rattle.nr_laws_rules.specs.Grammar.{IsDecl, IsFile}
 use Rattle.nr_laws_rules.specs.Refusal.{IsRefusedAt}
 use Rattle.nr_laws_rules.proofs.KindLaws.{kinds_same, same_kinds, SameFirst, AllGo, all_front}
 use Rattle.nr_laws_rules.proofs.Steps.{Traced, taken_here, refused_here, not_both, sample}
 use Rattle.nr_laws_rules.proofs.Chains.{unbounded, many_goes, until_traced, until_taken, until_stops}
+use Rattle.nr_laws_rules.proofs.Spelling.{end_is_length}
 use Rattle.nr_laws_rules.proofs.Declarations.{declaration_decides, declaration_begins}
 
 -- ---- the end of the tokens
@@ -106,12 +108,12 @@ refused ts place ended e = by_trace (declarations_traced ts)
         before = before;
         behind = tail;
         split = split;
-        goes_on = (
+        can_go_on = (
           more ++ sample k.End [] ∷ [],
           record { decls = list; end = 0 },
           subst (λ (l : List Token). IsFile l (record { decls = list; end = 0 })) (append_assoc before more (sample k.End [] ∷ [])) (whole_file (before ++ more) list (sample k.End []) m refl),
         );
-        ends_here = λ after file f. absurd (cc (sym (again (before ++ t ∷ after) file f) ∙ ap file_in (alike (t ∷ after) refl)));
+        cannot_go_on = λ after file f. absurd (cc (sym (again (before ++ t ∷ after) file f) ∙ ap file_in (alike (t ∷ after) refl)));
       },
     )
 
@@ -137,8 +139,8 @@ splits (t ∷ x) (u ∷ y) p q a b e = let same : t ≡ u = cc in let rest : x +
 -- a token within what can be continued isn't refused
 within : (ts : List Token) (a b : Token) (r : IsRefusedAt ts a) (s : IsRefusedAt ts b) (l : List Token) → s.before ≡ r.before ++ a ∷ l → ⊥
 within ts a b r s l e =
-    r.ends_here (l ++ s.goes_on.0) s.goes_on.1
-    (subst (λ (w : List Token). IsFile w s.goes_on.1) (ap (λ (w : List Token). w ++ s.goes_on.0) e ∙ append_assoc r.before (a ∷ l) s.goes_on.0) s.goes_on.2)
+    r.cannot_go_on (l ++ s.can_go_on.0) s.can_go_on.1
+    (subst (λ (w : List Token). IsFile w s.can_go_on.1) (ap (λ (w : List Token). w ++ s.can_go_on.0) e ∙ append_assoc r.before (a ∷ l) s.can_go_on.0) s.can_go_on.2)
 
 one_refused : (ts : List Token) (a b : Token) → IsRefusedAt ts a → IsRefusedAt ts b → a ≡ b
 one_refused ts a b r s = by_case (splits r.before s.before r.behind s.behind a b (sym r.split ∙ s.split))
@@ -173,5 +175,18 @@ pub first_is_refusal : (text : List ℕ) (t : Token) → IsRefusedAt (tokens_of 
 first_is_refusal text t r = by_case (file_of text) refl
   where
     by_case : (o : Result File ℕ) → file_of text ≡ o → file_of text ≡ Err t.from
-    by_case (Ok file) e = absurd (r.ends_here r.behind file (subst (λ (w : List Token). IsFile w file) r.split (read_is_file text file e)))
+    by_case (Ok file) e = absurd (r.cannot_go_on r.behind file (subst (λ (w : List Token). IsFile w file) r.split (read_is_file text file e)))
     by_case (Err place) e = let f = refusal_is_first text place e in e ∙ ap (λ (n : ℕ). Err n) (sym f.1 ∙ ap (λ (u : Token). u.from) (one_refused (tokens_of text) f.0 t f.2 r))
+
+-- ---- the end of a text
+
+file_ends : (text : List ℕ) (file : File) → IsFile (tokens_of text) file → file.end ≡ length text
+unfolding IsFile
+file_ends text file (list, front, back, e, m, (span, f, b, e1, (t, alone, is, place), (none, made))) =
+    ap (λ (x : File). x.end) made ∙ ap (λ (s : Span). s.from) place ∙ end_is_length text front t [] (rw (e, e1, alone, none) refl) is
+
+pub read_ends : (text : List ℕ) (file : File) → file_of text ≡ Ok file → file.end ≡ length text
+read_ends text file e = file_ends text file (read_is_file text file e)
+
+pub early_end : (text : List ℕ) (t : Token) → IsRefusedAt (tokens_of text) t → t.kind ≡ k.End → file_of text ≡ Err (length text)
+early_end text t r is = first_is_refusal text t r ∙ ap (λ (n : ℕ). Err n) (end_is_length text r.before t r.behind r.split is)

@@ -11,8 +11,8 @@ use Rattle.nr_rule_syntax.specs.declared.tree.Form.{Form}
 use Rattle.nr_rule_syntax.specs.declared.tree.Form.TheVariants as forms
 use Rattle.nr_rule_syntax.specs.declared.formula.Level.TheVariants.{Whole, Member}
 use Rattle.nr_rule_syntax.specs.Reading as read
-use Rattle.nr_laws_rules.specs.Words as words
-use Rattle.nr_laws_rules.specs.Words.{Words, token}
+use Rattle.nr_laws_rules.specs.Productions as words
+use Rattle.nr_laws_rules.specs.Productions.{StandsFor, token}
 use Rattle.nr_laws_rules.specs.Grammar.{Inside, IsName, IsRoute, IsAbout, IsParenthesized, IsOverGroup, IsBound, IsBranches, IsConditional, IsInSet, IsCompared, IsAtom, IsNot, IsAnd, IsOr, IsForm, held}
 use Rattle.nr_laws_rules.proofs.KindLaws.{Free}
 use Rattle.nr_laws_rules.proofs.Steps.{Traced, Complete, Goes, Decides, HasWord, Follows, IsChosen, Leads, Begins, word_of, widened, refused_at_once, bound, next, mapped, bind_goes, one_goes, pure_decides, pure_traced, expect_decides, one_leads, bind_leads, leads_begin, leads_follow, or_begins, bind_begins, chosen, chosen_passed, ◌else◌, by_kind, passed_traced, passed_complete, either_decides, maybe_decides, sample, DecidesAt, passed_at, next_at, mapped_at, chosen_at}
@@ -30,7 +30,7 @@ Opened zero = Unit {0}
 Opened (suc levels) = Holds (suc levels)
 
 -- what stands behind a formula inside a level
-closes : {B : Type 0} {S : Words B} {stops : List Kind} (kind : Kind) → Leads kind S → Free (k.Implies ∷ k.Or ∷ k.And ∷ []) kind → Follows (k.Implies ∷ k.Or ∷ k.And ∷ []) S stops
+closes : {B : Type 0} {S : StandsFor B} {stops : List Kind} (kind : Kind) → Leads kind S → Free (k.Implies ∷ k.Or ∷ k.And ∷ []) kind → Follows (k.Implies ∷ k.Or ∷ k.And ∷ []) S stops
 closes kind h free = leads_follow kind h free
 
 -- ---- the atoms that open a level
@@ -89,7 +89,7 @@ atom_traced levels o k.PrefixWord ts e = widened (λ w a r. inr (inr (inr (inr (
 atom_traced levels o _ ts e = widened (λ w a r. inr (inr (inr (inr (inr (inr (inr (inr (inr r))))))))) (compared_decides.traced ts)
 
 -- what has no words
-impossible : {A : Type 0} {P : Kind → Parser A} {R : Words A} {stops : List Kind} → ((w : List Token) (a : A) → R w a → ⊥) → IsChosen P R stops
+impossible : {A : Type 0} {P : Kind → Parser A} {R : StandsFor A} {stops : List Kind} → ((w : List Token) (a : A) → R w a → ⊥) → IsChosen P R stops
 impossible h = record { complete = record { takes = λ w a after r free. absurd (h w a r) }; goes = record { all = λ w a r. absurd (h w a r) } }
 
 parenthesized_chosen : (levels : ℕ) → Opened levels → IsChosen (read.atom_by levels (read.inside levels)) (IsParenthesized (held levels)) []
@@ -147,7 +147,7 @@ atom_begins inside =
 
 -- ---- formulas
 
-abbrev Denied : ℕ → Words Form
+abbrev Denied : ℕ → StandsFor Form
 Denied levels = words.◌>>◌ (token k.Not) (words.◌<$>◌ forms.Not (held levels Member))
 
 denied : ℕ → Parser Form
@@ -181,7 +181,7 @@ disjunction_decides : (levels : ℕ) → Opened levels → Decides (read.disjunc
 unfolding read.disjunction IsOr same_kind
 disjunction_decides levels o = chain_decides k.Or refl refl (refl, tt) (conjunction_decides levels o) forms.Or
 
-abbrev Implied : ℕ → Form → Words Form
+abbrev Implied : ℕ → Form → StandsFor Form
 Implied levels left = words.◌>>◌ (token k.Implies) (words.◌>>=◌ (held levels Whole) (λ right. words.gives (forms.Implies left right)))
 
 implied : ℕ → Form → Parser Form

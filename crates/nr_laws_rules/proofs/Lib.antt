@@ -4,4 +4,6 @@ pub mod Chains
 pub mod Terms
 pub mod Forms
 pub mod Declarations
+pub mod Pieces
+pub mod Spelling
 pub mod Files

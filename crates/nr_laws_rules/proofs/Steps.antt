@@ -8,11 +8,11 @@ use Rattle.nr_spec_rules.specs.declared.span.Span.{Span}
 use Rattle.nr_spec_rules.specs.Tokens.{Token, same_kind, kind_of, place_of, text_of, span_of, goes_on}
 use Rattle.nr_spec_rules.specs.Parsing as read
 use Rattle.nr_spec_rules.specs.Parsing.{Parser, Outcome, and_then, sees, expect, valued, found, refuse}
-use Rattle.nr_laws_rules.specs.Words as words
-use Rattle.nr_laws_rules.specs.Words.{Words, one, token}
+use Rattle.nr_laws_rules.specs.Productions as words
+use Rattle.nr_laws_rules.specs.Productions.{StandsFor, one, token}
 use Rattle.nr_laws_rules.proofs.KindLaws.{kinds_same, same_kinds, Free, SameFirst, by_first, same_behind, kind_alike, sees_alike, AllGo, all_joined}
 
-pub record IsTaken {A : Type 0} (p : Parser A) (R : Words A) (ts : List Token) : Type 0 where
+pub record IsTaken {A : Type 0} (p : Parser A) (R : StandsFor A) (ts : List Token) : Type 0 where
   pub before : List Token
   pub rest : List Token
   pub value : A
@@ -20,7 +20,7 @@ pub record IsTaken {A : Type 0} (p : Parser A) (R : Words A) (ts : List Token) :
   pub is : R before value
   pub alike : (y : List Token) → SameFirst rest y → p (before ++ y) ≡ Ok (value, y)
 
-pub record IsRefused {A : Type 0} (p : Parser A) (R : Words A) (ts : List Token) : Type 0 where
+pub record IsRefused {A : Type 0} (p : Parser A) (R : StandsFor A) (ts : List Token) : Type 0 where
   pub before : List Token
   pub rest : List Token
   pub split : ts ≡ before ++ rest
@@ -29,25 +29,25 @@ pub record IsRefused {A : Type 0} (p : Parser A) (R : Words A) (ts : List Token)
   pub value : A
   pub goes_on : R (before ++ more) value
 
-abbrev pub Traced : {A : Type 0} → Parser A → Words A → List Token → Type 0
+abbrev pub Traced : {A : Type 0} → Parser A → StandsFor A → List Token → Type 0
 Traced p R ts = IsTaken p R ts ⊎ IsRefused p R ts
 
 -- each front of the production is taken where none of these kinds of token stands behind it
-pub record Complete {A : Type 0} (p : Parser A) (R : Words A) (stops : List Kind) : Type 0 where
+pub record Complete {A : Type 0} (p : Parser A) (R : StandsFor A) (stops : List Kind) : Type 0 where
   pub takes : (w : List Token) (a : A) (after : List Token) → R w a → Free stops (kind_of after) → p (w ++ after) ≡ Ok (a, after)
 
 -- no word has a token at which the tokens of a text end
-pub record Goes {A : Type 0} (R : Words A) : Type 0 where
+pub record Goes {A : Type 0} (R : StandsFor A) : Type 0 where
   pub all : (w : List Token) (a : A) → R w a → AllGo w
 
-pub record Decides {A : Type 0} (p : Parser A) (R : Words A) (stops : List Kind) : Type 0 where
+pub record Decides {A : Type 0} (p : Parser A) (R : StandsFor A) (stops : List Kind) : Type 0 where
   pub traced : (ts : List Token) → Traced p R ts
   pub complete : Complete p R stops
   pub goes : Goes R
 
 -- ---- the tokens of words
 
-pub bind_goes : {A B : Type 0} {R : Words A} {S : A → Words B} → Goes R → ((a : A) → Goes (S a)) → Goes (words.◌>>=◌ R S)
+pub bind_goes : {A B : Type 0} {R : StandsFor A} {S : A → StandsFor B} → Goes R → ((a : A) → Goes (S a)) → Goes (words.◌>>=◌ R S)
 bind_goes {A} {B} {R} {S} h g = record { all = all }
   where
     all : (w : List Token) (b : B) → words.◌>>=◌ R S w b → AllGo w
@@ -56,7 +56,7 @@ bind_goes {A} {B} {R} {S} h g = record { all = all }
 pub gives_goes : {A : Type 0} {a : A} → Goes (words.gives a)
 gives_goes = record { all = λ w b h. rw (h.0) tt }
 
-pub or_goes : {A : Type 0} {R S : Words A} → Goes R → Goes S → Goes (words.◌or◌ R S)
+pub or_goes : {A : Type 0} {R S : StandsFor A} → Goes R → Goes S → Goes (words.◌or◌ R S)
 or_goes {A} {R} {S} h g = record { all = all }
   where
     all : (w : List Token) (a : A) → words.◌or◌ R S w a → AllGo w
@@ -69,29 +69,29 @@ one_goes {A} {Means} {kind} go = record { all = all }
     all : (w : List Token) (a : A) → one kind Means w a → AllGo w
     all w a (t, alone, is, m) = rw alone (ap goes_on is ∙ go, tt)
 
-pub taken_here : {A : Type 0} {p : Parser A} {R : Words A} {ts : List Token} (t : IsTaken p R ts) → p ts ≡ Ok (t.value, t.rest)
+pub taken_here : {A : Type 0} {p : Parser A} {R : StandsFor A} {ts : List Token} (t : IsTaken p R ts) → p ts ≡ Ok (t.value, t.rest)
 taken_here {p = p} t = ap p t.split ∙ t.alike t.rest refl
 
-pub refused_here : {A : Type 0} {p : Parser A} {R : Words A} {ts : List Token} (r : IsRefused p R ts) → p ts ≡ Err (place_of r.rest)
+pub refused_here : {A : Type 0} {p : Parser A} {R : StandsFor A} {ts : List Token} (r : IsRefused p R ts) → p ts ≡ Err (place_of r.rest)
 refused_here {p = p} r = ap p r.split ∙ r.alike r.rest refl
 
 -- ---- a production has words
 
-pub record HasWord {A : Type 0} (R : Words A) : Type 0 where
+pub record HasWord {A : Type 0} (R : StandsFor A) : Type 0 where
   pub word : List Token
   pub value : A
   pub is : R word value
 
-pub word_of : {A : Type 0} {p : Parser A} {R : Words A} {ts : List Token} → Traced p R ts → HasWord R
+pub word_of : {A : Type 0} {p : Parser A} {R : StandsFor A} {ts : List Token} → Traced p R ts → HasWord R
 word_of (inl t) = record { word = t.before; value = t.value; is = t.is }
 word_of (inr r) = record { word = r.before ++ r.more; value = r.value; is = r.goes_on }
 
 -- ---- a wider production
 
-abbrev pub IsWider : {A : Type 0} → Words A → Words A → Type 0
+abbrev pub IsWider : {A : Type 0} → StandsFor A → StandsFor A → Type 0
 IsWider {A} R S = (w : List Token) (a : A) → R w a → S w a
 
-pub widened : {A : Type 0} {p : Parser A} {R S : Words A} {ts : List Token} → IsWider R S → Traced p R ts → Traced p S ts
+pub widened : {A : Type 0} {p : Parser A} {R S : StandsFor A} {ts : List Token} → IsWider R S → Traced p R ts → Traced p S ts
 widened h (inl t) = inl (record { before = t.before; rest = t.rest; value = t.value; split = t.split; is = h t.before t.value t.is; alike = t.alike })
 widened h (inr r) = inr (record {
   before = r.before;
@@ -104,12 +104,12 @@ widened h (inr r) = inr (record {
 })
 
 -- what refuses whatever comes
-pub refused_at_once : {A : Type 0} {p : Parser A} {R : Words A} (ts : List Token) → HasWord R → ((y : List Token) → SameFirst ts y → p y ≡ Err (place_of y)) → Traced p R ts
+pub refused_at_once : {A : Type 0} {p : Parser A} {R : StandsFor A} (ts : List Token) → HasWord R → ((y : List Token) → SameFirst ts y → p y ≡ Err (place_of y)) → Traced p R ts
 refused_at_once ts w h = inr (record { before = []; rest = ts; split = refl; alike = h; more = w.word; value = w.value; goes_on = w.is })
 
 -- ---- one after another
 
-pub bind_traced : {A B : Type 0} {p : Parser A} {q : A → Parser B} {R : Words A} {S : A → Words B} {ts : List Token}
+pub bind_traced : {A B : Type 0} {p : Parser A} {q : A → Parser B} {R : StandsFor A} {S : A → StandsFor B} {ts : List Token}
     → Traced p R ts → ((a : A) (rest : List Token) → Traced (q a) (S a) rest) → Traced (λ us. and_then (p us) q) (words.◌>>=◌ R S) ts
 bind_traced {A} {B} {p} {q} {R} {S} {ts} (inr r) h =
     let w = word_of (h r.value []) in
@@ -152,10 +152,10 @@ bind_traced {A} {B} {p} {q} {R} {S} {ts} (inl t) h = then_of (h t.value t.rest)
     })
 
 -- what follows the first part is none of the kinds with which that could go on
-pub record Follows {B : Type 0} (stops : List Kind) (S : Words B) (after_stops : List Kind) : Type 0 where
+pub record Follows {B : Type 0} (stops : List Kind) (S : StandsFor B) (after_stops : List Kind) : Type 0 where
   pub free : (w : List Token) (b : B) (after : List Token) → S w b → Free after_stops (kind_of after) → Free stops (kind_of (w ++ after))
 
-pub bind_complete : {A B : Type 0} {p : Parser A} {q : A → Parser B} {R : Words A} {S : A → Words B} {stops after_stops : List Kind}
+pub bind_complete : {A B : Type 0} {p : Parser A} {q : A → Parser B} {R : StandsFor A} {S : A → StandsFor B} {stops after_stops : List Kind}
     → Complete p R stops → ((a : A) → Complete (q a) (S a) after_stops) → ((a : A) → Follows stops (S a) after_stops)
     → Complete (λ us. and_then (p us) q) (words.◌>>=◌ R S) after_stops
 bind_complete {A} {B} {p} {q} {R} {S} {stops} {after_stops} hp hq follow = record { takes = λ w b after is free. takes w b after is free }
@@ -167,7 +167,7 @@ bind_complete {A} {B} {p} {q} {R} {S} {stops} {after_stops} hp hq follow = recor
         ∙ ap (λ (o : Outcome A). and_then o q) (hp.takes front a (back ++ after) r ((follow a).free back b after s free))
         ∙ (hq a).takes back b after s free
 
-pub bound : {A B : Type 0} {p : Parser A} {q : A → Parser B} {R : Words A} {S : A → Words B} {stops after_stops : List Kind}
+pub bound : {A B : Type 0} {p : Parser A} {q : A → Parser B} {R : StandsFor A} {S : A → StandsFor B} {stops after_stops : List Kind}
     → Decides p R stops → ((a : A) → Decides (q a) (S a) after_stops) → ((a : A) → Follows stops (S a) after_stops)
     → Decides (λ us. and_then (p us) q) (words.◌>>=◌ R S) after_stops
 bound hp hq follow = record {
@@ -177,7 +177,7 @@ bound hp hq follow = record {
 }
 
 -- the same where the first part ends by itself
-pub next : {A B : Type 0} {p : Parser A} {q : A → Parser B} {R : Words A} {S : A → Words B} {after_stops : List Kind}
+pub next : {A B : Type 0} {p : Parser A} {q : A → Parser B} {R : StandsFor A} {S : A → StandsFor B} {after_stops : List Kind}
     → Decides p R [] → ((a : A) → Decides (q a) (S a) after_stops) → Decides (λ us. and_then (p us) q) (words.◌>>=◌ R S) after_stops
 next hp hq = bound hp hq (λ a. record { free = λ w b after s f. tt })
 
@@ -195,7 +195,7 @@ pure_decides {A} {a} = record {
     pure_complete w b after e f = ap (λ (l : List Token). let r : Outcome A = Ok (a, l ++ after) in r) e ∙ ap (λ (x : A). let r : Outcome A = Ok (x, after) in r) (sym f)
 
 -- what is made of the value
-pub mapped : {A B : Type 0} {p : Parser A} {R : Words A} {stops : List Kind} (f : A → B) → Decides p R stops → Decides (read.◌<$>◌ f p) (words.◌<$>◌ f R) stops
+pub mapped : {A B : Type 0} {p : Parser A} {R : StandsFor A} {stops : List Kind} (f : A → B) → Decides p R stops → Decides (read.◌<$>◌ f p) (words.◌<$>◌ f R) stops
 mapped {stops = stops} f h = bound h (λ a. pure_decides) (λ a. record { free = λ w b after s free. subst (λ (l : List Token). Free stops (kind_of (l ++ after))) (sym s.0) free })
 
 -- ---- single tokens
@@ -273,16 +273,16 @@ valued_decides {A} kind value ne go some = record { traced = traced; complete = 
 -- ---- by the kind of the next token
 
 -- what begins with a token of this kind
-pub record Leads {A : Type 0} (kind : Kind) (R : Words A) : Type 0 where
+pub record Leads {A : Type 0} (kind : Kind) (R : StandsFor A) : Type 0 where
   pub leads : (w : List Token) (a : A) (after : List Token) → R w a → kind_of (w ++ after) ≡ kind
 
-pub one_leads : {A B : Type 0} {Means : Token → A → Type 0} {S : A → Words B} (kind : Kind) → Leads kind (words.◌>>=◌ (one kind Means) S)
+pub one_leads : {A B : Type 0} {Means : Token → A → Type 0} {S : A → StandsFor B} (kind : Kind) → Leads kind (words.◌>>=◌ (one kind Means) S)
 one_leads {A} {B} {Means} {S} kind = record { leads = leads }
   where
     leads : (w : List Token) (b : B) (after : List Token) → words.◌>>=◌ (one kind Means) S w b → kind_of (w ++ after) ≡ kind
     leads w b after (a, front, back, e, (t, alone, is, m), s) = rw (e, alone) is
 
-pub bind_leads : {A B : Type 0} {R : Words A} {S : A → Words B} (kind : Kind) → Leads kind R → Leads kind (words.◌>>=◌ R S)
+pub bind_leads : {A B : Type 0} {R : StandsFor A} {S : A → StandsFor B} (kind : Kind) → Leads kind R → Leads kind (words.◌>>=◌ R S)
 bind_leads {A} {B} {R} {S} kind h = record { leads = leads }
   where
     leads : (w : List Token) (b : B) (after : List Token) → words.◌>>=◌ R S w b → kind_of (w ++ after) ≡ kind
@@ -290,10 +290,10 @@ bind_leads {A} {B} {R} {S} kind h = record { leads = leads }
         ap (λ (l : List Token). kind_of (l ++ after)) e ∙ ap kind_of (append_assoc front back after) ∙ h.leads front a (back ++ after) r
 
 -- what begins with a token that ends the part before it
-pub leads_follow : {B : Type 0} {S : Words B} {stops after_stops : List Kind} (kind : Kind) → Leads kind S → Free stops kind → Follows stops S after_stops
+pub leads_follow : {B : Type 0} {S : StandsFor B} {stops after_stops : List Kind} (kind : Kind) → Leads kind S → Free stops kind → Follows stops S after_stops
 leads_follow {stops = stops} kind h free = record { free = λ w b after s f. subst (λ (x : Kind). Free stops x) (sym (h.leads w b after s)) free }
 
-pub kind_traced : {A : Type 0} (P : Kind → Parser A) {R : Words A} (ts : List Token) → Traced (P (kind_of ts)) R ts → Traced (λ us. P (kind_of us) us) R ts
+pub kind_traced : {A : Type 0} (P : Kind → Parser A) {R : StandsFor A} (ts : List Token) → Traced (P (kind_of ts)) R ts → Traced (λ us. P (kind_of us) us) R ts
 kind_traced {A} P {R} ts t = by_case t
   where
     same : (before rest y : List Token) → ts ≡ before ++ rest → SameFirst rest y → kind_of (before ++ y) ≡ kind_of ts
@@ -319,20 +319,20 @@ kind_traced {A} P {R} ts t = by_case t
     })
 
 -- what begins with a token of such a kind
-pub record Begins {A : Type 0} (Is : Kind → Type 0) (R : Words A) : Type 0 where
+pub record Begins {A : Type 0} (Is : Kind → Type 0) (R : StandsFor A) : Type 0 where
   pub begins : (w : List Token) (a : A) (after : List Token) → R w a → Is (kind_of (w ++ after))
 
-pub leads_begin : {A : Type 0} {Is : Kind → Type 0} {R : Words A} (kind : Kind) → Leads kind R → Is kind → Begins Is R
+pub leads_begin : {A : Type 0} {Is : Kind → Type 0} {R : StandsFor A} (kind : Kind) → Leads kind R → Is kind → Begins Is R
 leads_begin {Is = Is} kind h is = record { begins = λ w a after r. subst Is (sym (h.leads w a after r)) is }
 
-pub or_begins : {A : Type 0} {Is : Kind → Type 0} {R S : Words A} → Begins Is R → Begins Is S → Begins Is (words.◌or◌ R S)
+pub or_begins : {A : Type 0} {Is : Kind → Type 0} {R S : StandsFor A} → Begins Is R → Begins Is S → Begins Is (words.◌or◌ R S)
 or_begins {A} {Is} {R} {S} h g = record { begins = begins }
   where
     begins : (w : List Token) (a : A) (after : List Token) → words.◌or◌ R S w a → Is (kind_of (w ++ after))
     begins w a after (inl r) = h.begins w a after r
     begins w a after (inr s) = g.begins w a after s
 
-pub bind_begins : {A B : Type 0} {Is : Kind → Type 0} {R : Words A} {S : A → Words B} → Begins Is R → Begins Is (words.◌>>=◌ R S)
+pub bind_begins : {A B : Type 0} {Is : Kind → Type 0} {R : StandsFor A} {S : A → StandsFor B} → Begins Is R → Begins Is (words.◌>>=◌ R S)
 bind_begins {A} {B} {Is} {R} {S} h = record { begins = begins }
   where
     begins : (w : List Token) (b : B) (after : List Token) → words.◌>>=◌ R S w b → Is (kind_of (w ++ after))
@@ -340,30 +340,30 @@ bind_begins {A} {B} {Is} {R} {S} h = record { begins = begins }
         subst (λ (l : List Token). Is (kind_of l)) (sym (append_assoc front back after) ∙ ap (λ (l : List Token). l ++ after) (sym e)) (h.begins front a (back ++ after) r)
 
 -- an alternative whose words are taken by what their kind chooses
-pub record IsChosen {A : Type 0} (P : Kind → Parser A) (R : Words A) (stops : List Kind) : Type 0 where
+pub record IsChosen {A : Type 0} (P : Kind → Parser A) (R : StandsFor A) (stops : List Kind) : Type 0 where
   pub complete : Complete (λ us. P (kind_of us) us) R stops
   pub goes : Goes R
 
-pub chosen : {A : Type 0} {P : Kind → Parser A} {p : Parser A} {R : Words A} {stops : List Kind} → Begins (λ kind. P kind ≡ p) R → Complete p R stops → Goes R → IsChosen P R stops
+pub chosen : {A : Type 0} {P : Kind → Parser A} {p : Parser A} {R : StandsFor A} {stops : List Kind} → Begins (λ kind. P kind ≡ p) R → Complete p R stops → Goes R → IsChosen P R stops
 chosen {A} {P} {p} h c g = record {
   complete = record { takes = λ w a after r free. ap (λ (q : Parser A). q (w ++ after)) (h.begins w a after r) ∙ c.takes w a after r free };
   goes = g;
 }
 
 infixr 8 ◌else◌
-pub ◌else◌ : {A : Type 0} {P : Kind → Parser A} {R S : Words A} {stops : List Kind} → IsChosen P R stops → IsChosen P S stops → IsChosen P (words.◌or◌ R S) stops
+pub ◌else◌ : {A : Type 0} {P : Kind → Parser A} {R S : StandsFor A} {stops : List Kind} → IsChosen P R stops → IsChosen P S stops → IsChosen P (words.◌or◌ R S) stops
 ◌else◌ {A} {P} {R} {S} {stops} h g = record { complete = record { takes = takes }; goes = or_goes h.goes g.goes }
   where
     takes : (w : List Token) (a : A) (after : List Token) → words.◌or◌ R S w a → Free stops (kind_of after) → P (kind_of (w ++ after)) (w ++ after) ≡ Ok (a, after)
     takes w a after (inl r) free = h.complete.takes w a after r free
     takes w a after (inr s) free = g.complete.takes w a after s free
 
-pub by_kind : {A : Type 0} {P : Kind → Parser A} {R : Words A} {stops : List Kind} → ((kind : Kind) (ts : List Token) → kind_of ts ≡ kind → Traced (P kind) R ts) → IsChosen P R stops
+pub by_kind : {A : Type 0} {P : Kind → Parser A} {R : StandsFor A} {stops : List Kind} → ((kind : Kind) (ts : List Token) → kind_of ts ≡ kind → Traced (P kind) R ts) → IsChosen P R stops
     → Decides (λ us. P (kind_of us) us) R stops
 by_kind {P = P} ht c = record { traced = λ ts. kind_traced P ts (ht (kind_of ts) ts refl); complete = c.complete; goes = c.goes }
 
 -- a token whose kind is known, and what follows it
-pub passed_traced : {A : Type 0} {q : Parser A} {S : Words A} (kind : Kind) → same_kind k.End kind ≡ false → (ts : List Token) → kind_of ts ≡ kind → ((rest : List Token) → Traced q S rest)
+pub passed_traced : {A : Type 0} {q : Parser A} {S : StandsFor A} (kind : Kind) → same_kind k.End kind ≡ false → (ts : List Token) → kind_of ts ≡ kind → ((rest : List Token) → Traced q S rest)
     → Traced (λ us. and_then (read.passed us) (λ _. q)) (words.◌>>◌ (token kind) S) ts
 passed_traced kind ne [] e h = absurd (not_both (same_kinds k.End kind e) ne)
 passed_traced {A} {q} {S} kind ne (t ∷ ts) e h = behind_it (h ts)
@@ -387,7 +387,7 @@ passed_traced {A} {q} {S} kind ne (t ∷ ts) e h = behind_it (h ts)
       goes_on = (span_of (t ∷ []), t ∷ [], r.before ++ r.more, refl, (t, refl, e, refl), r.goes_on);
     })
 
-pub passed_complete : {A : Type 0} {q : Parser A} {S : Words A} {stops : List Kind} (kind : Kind) → Complete q S stops
+pub passed_complete : {A : Type 0} {q : Parser A} {S : StandsFor A} {stops : List Kind} (kind : Kind) → Complete q S stops
     → Complete (λ us. and_then (read.passed us) (λ _. q)) (words.◌>>◌ (token kind) S) stops
 passed_complete {A} {q} {S} {stops} kind h = record { takes = takes }
   where
@@ -395,13 +395,13 @@ passed_complete {A} {q} {S} {stops} kind h = record { takes = takes }
     takes w a after (span, front, back, e, (t, alone, is, place), s) free = rw (e, alone) (h.takes back a after s free)
 
 -- what is read where a token of this kind comes next
-pub record DecidesAt {A : Type 0} (kind : Kind) (p : Parser A) (R : Words A) (stops : List Kind) : Type 0 where
+pub record DecidesAt {A : Type 0} (kind : Kind) (p : Parser A) (R : StandsFor A) (stops : List Kind) : Type 0 where
   pub traced : (ts : List Token) → kind_of ts ≡ kind → Traced p R ts
   pub leads : Leads kind R
   pub complete : Complete p R stops
   pub goes : Goes R
 
-pub passed_at : {A : Type 0} {q : Parser A} {S : Words A} {stops : List Kind} (kind : Kind) → same_kind k.End kind ≡ false → goes_on kind ≡ true → Decides q S stops
+pub passed_at : {A : Type 0} {q : Parser A} {S : StandsFor A} {stops : List Kind} (kind : Kind) → same_kind k.End kind ≡ false → goes_on kind ≡ true → Decides q S stops
     → DecidesAt kind (λ us. and_then (read.passed us) (λ _. q)) (words.◌>>◌ (token kind) S) stops
 passed_at kind ne go h = record {
   traced = λ ts e. passed_traced kind ne ts e h.traced;
@@ -410,7 +410,7 @@ passed_at kind ne go h = record {
   goes = bind_goes (one_goes go) (λ _. h.goes);
 }
 
-pub next_at : {A B : Type 0} {kind : Kind} {p : Parser A} {q : A → Parser B} {R : Words A} {S : A → Words B} {stops : List Kind}
+pub next_at : {A B : Type 0} {kind : Kind} {p : Parser A} {q : A → Parser B} {R : StandsFor A} {S : A → StandsFor B} {stops : List Kind}
     → DecidesAt kind p R [] → ((a : A) → Decides (q a) (S a) stops) → DecidesAt kind (λ us. and_then (p us) q) (words.◌>>=◌ R S) stops
 next_at {kind = kind} h g = record {
   traced = λ ts e. bind_traced (h.traced ts e) (λ a rest. (g a).traced rest);
@@ -419,20 +419,20 @@ next_at {kind = kind} h g = record {
   goes = bind_goes h.goes (λ a. (g a).goes);
 }
 
-pub mapped_at : {A B : Type 0} {kind : Kind} {p : Parser A} {R : Words A} (f : A → B) → DecidesAt kind p R [] → DecidesAt kind (read.◌<$>◌ f p) (words.◌<$>◌ f R) []
+pub mapped_at : {A B : Type 0} {kind : Kind} {p : Parser A} {R : StandsFor A} (f : A → B) → DecidesAt kind p R [] → DecidesAt kind (read.◌<$>◌ f p) (words.◌<$>◌ f R) []
 mapped_at f h = next_at h (λ a. pure_decides)
 
-pub chosen_at : {A : Type 0} {P : Kind → Parser A} {p : Parser A} {R : Words A} {stops : List Kind} {kind : Kind} → P kind ≡ p → DecidesAt kind p R stops → IsChosen P R stops
+pub chosen_at : {A : Type 0} {P : Kind → Parser A} {p : Parser A} {R : StandsFor A} {stops : List Kind} {kind : Kind} → P kind ≡ p → DecidesAt kind p R stops → IsChosen P R stops
 chosen_at {kind = kind} is h = chosen (leads_begin kind h.leads is) h.complete h.goes
 
 -- an alternative that begins with a token of a known kind
-pub chosen_passed : {A : Type 0} {P : Kind → Parser A} {q : Parser A} {S : Words A} {stops : List Kind} (kind : Kind) → goes_on kind ≡ true → P kind ≡ (λ us. and_then (read.passed us) (λ _. q)) → Decides q S stops
+pub chosen_passed : {A : Type 0} {P : Kind → Parser A} {q : Parser A} {S : StandsFor A} {stops : List Kind} (kind : Kind) → goes_on kind ≡ true → P kind ≡ (λ us. and_then (read.passed us) (λ _. q)) → Decides q S stops
     → IsChosen P (words.◌>>◌ (token kind) S) stops
 chosen_passed kind go is h = chosen (leads_begin kind (one_leads kind) is) (passed_complete kind h.complete) (bind_goes (one_goes go) (λ _. h.goes))
 
 -- ---- one of two by the next token
 
-pub either_decides : {A : Type 0} (kind : Kind) {q p : Parser A} {S R : Words A} {stops : List Kind} → ((ts : List Token) → kind_of ts ≡ kind → Traced q (words.◌or◌ S R) ts)
+pub either_decides : {A : Type 0} (kind : Kind) {q p : Parser A} {S R : StandsFor A} {stops : List Kind} → ((ts : List Token) → kind_of ts ≡ kind → Traced q (words.◌or◌ S R) ts)
     → Leads kind S → Complete q S stops → Goes S → Begins (λ x. same_kind x kind ≡ false) R → Decides p R stops
     → Decides (λ ts. cond (sees kind ts) (q ts) (p ts)) (words.◌or◌ S R) stops
 either_decides {A} kind {q} {p} {S} {R} {stops} ht hl hc hg hb d = record { traced = traced; complete = record { takes = takes }; goes = or_goes hg d.goes }
@@ -458,7 +458,7 @@ pub record MayStop (kind : Kind) (stops inner : List Kind) : Type 0 where
   pub here : (x : Kind) → Free stops x → same_kind x kind ≡ false
   pub inside : (x : Kind) → Free stops x → Free inner x
 
-pub maybe_decides : {A : Type 0} (kind : Kind) {q : Parser A} {S : Words A} {stops inner : List Kind} (a : A) → MayStop kind stops inner
+pub maybe_decides : {A : Type 0} (kind : Kind) {q : Parser A} {S : StandsFor A} {stops inner : List Kind} (a : A) → MayStop kind stops inner
     → ((ts : List Token) → kind_of ts ≡ kind → Traced q (words.◌or◌ S (words.gives a)) ts) → Leads kind S → Complete q S inner → Goes S
     → Decides (λ ts. cond (sees kind ts) (q ts) (Ok (a, ts))) (words.◌or◌ S (words.gives a)) stops
 maybe_decides {A} kind {q} {S} {stops} {inner} a may ht hl hc hg = record { traced = traced; complete = record { takes = takes }; goes = or_goes hg gives_goes }

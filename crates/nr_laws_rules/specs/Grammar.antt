@@ -26,32 +26,32 @@ use Rattle.nr_rule_syntax.specs.declared.tree.Cmp.{Cmp}
 use Rattle.nr_rule_syntax.specs.declared.tree.Cmp.TheVariants as cmps
 use Rattle.nr_rule_syntax.specs.declared.formula.Level.{Level}
 use Rattle.nr_rule_syntax.specs.declared.formula.Level.TheVariants.{Whole, Member}
-use Rattle.nr_laws_rules.specs.Words.{Words, gives, ◌>>=◌, ◌>>◌, ◌<$>◌, ◌or◌, token, valued, many, list, chain}
+use Rattle.nr_laws_rules.specs.Productions.{StandsFor, gives, ◌>>=◌, ◌>>◌, ◌<$>◌, ◌or◌, token, valued, many, list, chain}
 
 -- ---- tokens with a value
 
-unfoldable pub IsName : Words Name
+unfoldable pub IsName : StandsFor Name
 IsName = (λ x. record { word = x.0; span = x.1 }) <$> valued k.Name (λ text. Some text)
 
-unfoldable pub IsNumber : Words Num
+unfoldable pub IsNumber : StandsFor Num
 IsNumber = (λ x. record { value = x.0; span = x.1 }) <$> valued k.Number number_of
 
-unfoldable pub IsAddress : Words Num
+unfoldable pub IsAddress : StandsFor Num
 IsAddress = (λ x. record { value = x.0; span = x.1 }) <$> valued k.Address address_of
 
-unfoldable pub IsCommunity : Words ℕ
+unfoldable pub IsCommunity : StandsFor ℕ
 IsCommunity = (λ x. x.0) <$> valued k.Community community_of
 
-unfoldable pub IsPrefix : Words PrefixText
+unfoldable pub IsPrefix : StandsFor PrefixText
 IsPrefix = (λ x. record { prefix = masked x.0.0 x.0.1; span = x.1 }) <$> valued k.Prefix prefix_of
 
-unfoldable pub IsRoot : Words RootText
+unfoldable pub IsRoot : StandsFor RootText
 IsRoot = (λ x. record { digest = record { 0 = x.0 }; span = x.1 }) <$> valued k.Root root_of
 
 -- ---- terms
 
 -- "(" NAME ")"
-unfoldable pub IsArgument : Words Name
+unfoldable pub IsArgument : StandsFor Name
 IsArgument = do
   token k.OpenParen
   of ← IsName
@@ -59,7 +59,7 @@ IsArgument = do
   gives of
 
 -- NUMBER | ADDRESS | "bits" | ( "length" | "med" | "pref" | "origin" | "first" | "last" | "hop" | "asn" ) "(" NAME ")"
-unfoldable pub IsTerm : Words Term
+unfoldable pub IsTerm : StandsFor Term
 IsTerm =
     (terms.Number <$> IsNumber) or (terms.Number <$> IsAddress) or (token k.Bits >> gives terms.Bits) or (token k.Length >> terms.Length <$> IsArgument)
     or (token k.Med >> terms.Med <$> IsArgument) or (token k.Pref >> terms.Pref <$> IsArgument) or (token k.Origin >> terms.Origin <$> IsArgument)
@@ -67,13 +67,13 @@ IsTerm =
     or (token k.Asn >> terms.Asn <$> IsArgument)
 
 -- "=" | "!=" | "<" | "<=" | ">" | ">="
-unfoldable pub IsCmp : Words Cmp
+unfoldable pub IsCmp : StandsFor Cmp
 IsCmp =
     (token k.Equal >> gives cmps.Eq) or (token k.Unequal >> gives cmps.Ne) or (token k.Less >> gives cmps.Lt) or (token k.LessOrEqual >> gives cmps.Le)
     or (token k.Greater >> gives cmps.Gt) or (token k.GreaterOrEqual >> gives cmps.Ge)
 
 -- Term Cmp Term
-unfoldable pub IsCompared : Words Form
+unfoldable pub IsCompared : StandsFor Form
 IsCompared = do
   left ← IsTerm
   op ← IsCmp
@@ -83,17 +83,17 @@ IsCompared = do
 -- ---- atoms
 
 -- ( "sent" | "received" ) "(" NAME ")"
-unfoldable pub IsRoute : Words (Side × Name)
+unfoldable pub IsRoute : StandsFor (Side × Name)
 IsRoute = (token k.Sent >> (λ of. (sides.Sent, of)) <$> IsArgument) or (token k.Received >> (λ of. (sides.Received, of)) <$> IsArgument)
 
--- "has" COMMUNITY | "crosses" Term | "is" NAME
-unfoldable pub IsAbout : Name → Words Form
+-- "has" COMMUNITY | "crosses" Term | "is" NAME, behind a NAME
+unfoldable pub IsAbout : Name → StandsFor Form
 IsAbout var =
     (token k.Has >> (λ c. forms.Has var c) <$> IsCommunity) or (token k.Crosses >> (λ t. forms.Crosses var t) <$> IsTerm)
     or (token k.Is >> (λ right. forms.Is var right) <$> IsName)
 
 -- "prefix" "in" NAME
-unfoldable pub IsInSet : Words Form
+unfoldable pub IsInSet : StandsFor Form
 IsInSet = do
   token k.PrefixWord
   token k.In
@@ -102,10 +102,10 @@ IsInSet = do
 
 -- what a level of nesting may hold
 abbrev pub Inside : Type 1
-Inside = Level → Words Form
+Inside = Level → StandsFor Form
 
 -- "(" Form ")"
-unfoldable pub IsParenthesized : Inside → Words Form
+unfoldable pub IsParenthesized : Inside → StandsFor Form
 IsParenthesized inside = do
   token k.OpenParen
   form ← inside Whole
@@ -113,7 +113,7 @@ IsParenthesized inside = do
   gives form
 
 -- "all" NAME "in" NAME "{" Form "}", and the same of "some"
-unfoldable pub IsOverGroup : Kind → Inside → Words (Name × Name × Form)
+unfoldable pub IsOverGroup : Kind → Inside → StandsFor (Name × Name × Form)
 IsOverGroup word inside = do
   token word
   var ← IsName
@@ -125,7 +125,7 @@ IsOverGroup word inside = do
   gives (var, group, form)
 
 -- "if" NAME "=" Route "then"
-unfoldable pub IsBound : Words (Name × (Side × Name))
+unfoldable pub IsBound : StandsFor (Name × (Side × Name))
 IsBound = do
   token k.If
   var ← IsName
@@ -135,7 +135,7 @@ IsBound = do
   gives (var, from)
 
 -- Form "else" Form "end"
-unfoldable pub IsBranches : Inside → Words (Form × Form)
+unfoldable pub IsBranches : Inside → StandsFor (Form × Form)
 IsBranches inside = do
   then_ ← inside Whole
   token k.Else
@@ -144,13 +144,16 @@ IsBranches inside = do
   gives (then_, else_)
 
 -- "if" NAME "=" Route "then" Form "else" Form "end"
-unfoldable pub IsConditional : Inside → Words Form
+unfoldable pub IsConditional : Inside → StandsFor Form
 IsConditional inside = do
   head ← IsBound
   parts ← IsBranches inside
   gives (forms.If head.0 head.1.0 head.1.1 parts.0 parts.1)
 
-unfoldable pub IsAtom : Inside → Words Form
+-- "true" | "false" | "(" Form ")" | ( "all" | "some" ) NAME "in" NAME "{" Form "}"
+-- | "if" NAME "=" Route "then" Form "else" Form "end" | Route | NAME ( "has" COMMUNITY | "crosses" Term | "is" NAME )
+-- | "prefix" "in" NAME | Term Cmp Term
+unfoldable pub IsAtom : Inside → StandsFor Form
 IsAtom inside =
     (token k.True >> gives forms.True) or (token k.False >> gives forms.False) or IsParenthesized inside
     or ((λ x. forms.All x.0 x.1 x.2) <$> IsOverGroup k.All inside) or ((λ x. forms.Some x.0 x.1 x.2) <$> IsOverGroup k.Some inside) or IsConditional inside
@@ -159,19 +162,19 @@ IsAtom inside =
 -- ---- formulas
 
 -- "not" Not | Atom
-unfoldable pub IsNot : Inside → Words Form
+unfoldable pub IsNot : Inside → StandsFor Form
 IsNot inside = (token k.Not >> forms.Not <$> inside Member) or IsAtom inside
 
 -- Not { "and" Not }
-unfoldable pub IsAnd : Inside → Words Form
+unfoldable pub IsAnd : Inside → StandsFor Form
 IsAnd inside = chain k.And forms.And (IsNot inside)
 
 -- And { "or" And }
-unfoldable pub IsOr : Inside → Words Form
+unfoldable pub IsOr : Inside → StandsFor Form
 IsOr inside = chain k.Or forms.Or (IsAnd inside)
 
 -- Or [ "implies" Form ]
-unfoldable pub IsForm : Inside → Words Form
+unfoldable pub IsForm : Inside → StandsFor Form
 IsForm inside = do
   left ← IsOr inside
   (do
@@ -179,21 +182,21 @@ IsForm inside = do
     right ← inside Whole
     gives (forms.Implies left right)) or gives left
 
--- What a level holds where it is one of so many that may be opened: nothing where none may, else a formula, or
--- behind `not` a member of a chain, in which one level less may be opened.
+-- `held n` is what may stand inside a level when n levels, that one counted, may still be open; with 0 no tokens
+-- may. It is a formula, or behind `not` a member of a chain.
 unfoldable pub held : ℕ → Inside
 held zero level ts form = ⊥
 held (suc levels) Whole ts form = IsForm (held levels) ts form
 held (suc levels) Member ts form = IsNot (held levels) ts form
 
 -- a formula in which so many levels may be opened
-abbrev pub IsFormOf : ℕ → Words Form
+abbrev pub IsFormOf : ℕ → StandsFor Form
 IsFormOf levels = IsForm (held levels)
 
 -- ---- declarations
 
 -- "network" NUMBER ";", and the same of "commit"
-unfoldable pub IsNumbered : Kind → Words (Num × Span)
+unfoldable pub IsNumbered : Kind → StandsFor (Num × Span)
 IsNumbered word = do
   span ← token word
   value ← IsNumber
@@ -201,7 +204,7 @@ IsNumbered word = do
   gives (value, span)
 
 -- [ "root" ROOT "number" NUMBER ]
-unfoldable pub IsKey : Words (Option (RootText × Num))
+unfoldable pub IsKey : StandsFor (Option (RootText × Num))
 IsKey = (do
   token k.RootWord
   of ← IsRoot
@@ -210,7 +213,7 @@ IsKey = (do
   gives (Some (of, number))) or gives None
 
 -- "neighbour" NAME "as" NUMBER "at" ADDRESS [ "root" ROOT "number" NUMBER ] ";"
-unfoldable pub IsNeighbour : Words Decl
+unfoldable pub IsNeighbour : StandsFor Decl
 IsNeighbour = do
   token k.Neighbour
   called ← IsName
@@ -223,7 +226,7 @@ IsNeighbour = do
   gives (decls.Neighbour called asn addr signs)
 
 -- "group" NAME "=" NAME { "," NAME } ";"
-unfoldable pub IsGroup : Words Decl
+unfoldable pub IsGroup : StandsFor Decl
 IsGroup = do
   token k.Group
   called ← IsName
@@ -233,7 +236,7 @@ IsGroup = do
   gives (decls.Group called members)
 
 -- PREFIX [ "le" NUMBER ]
-unfoldable pub IsPattern : Words PatternText
+unfoldable pub IsPattern : StandsFor PatternText
 IsPattern = do
   base ← IsPrefix
   (do
@@ -242,7 +245,7 @@ IsPattern = do
     gives (record { prefix = base.prefix; most = Some most; span = base.span })) or gives (record { prefix = base.prefix; most = None; span = base.span })
 
 -- "define" NAME "=" Pattern { "," Pattern } ";"
-unfoldable pub IsDefine : Words Decl
+unfoldable pub IsDefine : StandsFor Decl
 IsDefine = do
   token k.Define
   called ← IsName
@@ -252,11 +255,11 @@ IsDefine = do
   gives (decls.Define called patterns)
 
 -- [ "at" PREFIX { "," PREFIX } ]
-unfoldable pub IsPlaces : Words (List PrefixText)
+unfoldable pub IsPlaces : StandsFor (List PrefixText)
 IsPlaces = (token k.At >> list k.Comma IsPrefix) or gives []
 
 -- NAME "grace" NUMBER [ "at" PREFIX { "," PREFIX } ]
-unfoldable pub IsHeading : Words (Name × Num × List PrefixText)
+unfoldable pub IsHeading : StandsFor (Name × Num × List PrefixText)
 IsHeading = do
   called ← IsName
   token k.Grace
@@ -265,7 +268,7 @@ IsHeading = do
   gives (called, grace, at)
 
 -- "promise" NAME "grace" NUMBER [ "at" PREFIX { "," PREFIX } ] "{" Form "}"
-unfoldable pub IsPromise : Words Decl
+unfoldable pub IsPromise : StandsFor Decl
 IsPromise = do
   token k.Promise
   head ← IsHeading
@@ -274,13 +277,14 @@ IsPromise = do
   token k.CloseBrace
   gives (decls.Promise head.0 head.1 head.2 form)
 
-unfoldable pub IsDecl : Words Decl
+-- "network" NUMBER ";" | "commit" NUMBER ";" | Neighbour | Group | Define | Promise
+unfoldable pub IsDecl : StandsFor Decl
 IsDecl =
     ((λ x. decls.Network x.0 x.1) <$> IsNumbered k.Network) or ((λ x. decls.Commit x.0 x.1) <$> IsNumbered k.Commit) or IsNeighbour or IsGroup or IsDefine
     or IsPromise
 
 -- { Decl }, and the end of the text
-unfoldable pub IsFile : Words File
+unfoldable pub IsFile : StandsFor File
 IsFile = do
   decls ← many IsDecl
   end ← token k.End

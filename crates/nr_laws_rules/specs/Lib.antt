@@ -1,3 +1,4 @@
 pub mod Grammar
+pub mod Productions
 pub mod Refusal
-pub mod Words
+pub mod Texts

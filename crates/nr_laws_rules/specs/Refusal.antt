@@ -9,5 +9,5 @@ pub record IsRefusedAt (ts : List Token) (refused : Token) : Type 0 where
   pub before : List Token
   pub behind : List Token
   pub split : ts ≡ before ++ refused ∷ behind
-  pub goes_on : (more : List Token) × (file : File) × IsFile (before ++ more) file
-  pub ends_here : (more : List Token) (file : File) → IsFile (before ++ refused ∷ more) file → ⊥
+  pub can_go_on : (more : List Token) × (file : File) × IsFile (before ++ more) file
+  pub cannot_go_on : (more : List Token) (file : File) → IsFile (before ++ refused ∷ more) file → ⊥

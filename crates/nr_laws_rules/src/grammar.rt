@@ -6,12 +6,12 @@ ghost use Rattle.nr_rule_syntax.specs.declared.tree.File.{File};
 ghost use Rattle.nr_rule_syntax.specs.Reading.{file_of};
 ghost use Rattle.nr_laws_rules.specs.Grammar.{IsFile};
 
-/// What is read of a text is the file that its tokens are by the grammar.
+/// What is read has its reason: where a text is read as a file, its tokens are that file by the grammar.
 pub fn read_file_is_of_grammar()
     ensures { (text : List ℕ) (file : File) → file_of text ≡ Ok file → IsFile (tokens_of text) file }
 {}
 
-/// Each text whose tokens are a file by the grammar is read as that file.
+/// The reason gives what is read: where a text's tokens are a file by the grammar, it is read as that file.
 pub fn file_of_grammar_is_read()
     ensures { (text : List ℕ) (file : File) → IsFile (tokens_of text) file → file_of text ≡ Ok file }
 {}
