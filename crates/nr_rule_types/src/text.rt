@@ -86,8 +86,9 @@ impl Typed {
     }
 }
 
-/// What a text says, with its names resolved. `At` is the place of the first token that the typing refuses, or
-/// the end of the text where `network` or `commit` is missing.
+/// What a text says, with its names resolved, for a text whose formulas nest at most 64 levels, as `parse`
+/// gives. `At` is the place of the first token that the typing refuses, or the end of the text where `network`
+/// or `commit` is missing.
 #[tactic(auto, unfolding(nr_spec_typing::specs::Declarations::typed_text))]
 pub fn check(alloc: Global, file: &File) -> Result<Typed, TypeError>
     requires { All IsNested file.now.decls }

@@ -9,7 +9,7 @@ mod shared;
 mod text;
 mod tree;
 
-pub use law::typed_texts_fit;
+pub use law::{not_all_is_some_not, route_alone_is_an_if, typed_texts_fit};
 pub use name::{Bound, Declared, Named, Variable};
 pub use shared::Shared;
 pub use text::{Neighbour, Promise};

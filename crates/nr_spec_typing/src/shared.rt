@@ -7,7 +7,7 @@ use std::alloc::{AllocError, Global};
 use std::marker::Model;
 use std::rc::RcSlice;
 
-/// A list that is never changed. A copy is the same list, and takes no memory.
+/// A list that is never changed. A further copy is the same list, and takes no memory.
 #[derive(Debug, Drop)]
 pub struct Shared<T> {
     items: RcSlice<T>,
@@ -35,7 +35,7 @@ impl<T: Drop> Shared<T> {
         })
     }
 
-    /// The same list once more.
+    /// The same list once more. An error where it stands in more places than can be counted.
     pub fn share(&self) -> Result<Shared<T>, AllocError>
         ensures { IfOk result (λ list. list ≡ self.now) }
     {
