@@ -10,6 +10,7 @@ use rand_chacha::ChaCha20Rng;
 use rand_core::SeedableRng;
 use rand_core::utils::NextWord;
 use std::alloc::Global;
+use std::process::Abort;
 use std::test::Fail;
 
 /// The bytes 0, 1, .. 31.
@@ -141,29 +142,55 @@ fn put_signature(alloc: Global, seed: &Seed, leaf: u32, out: &mut Vec<u8>) -> Re
     Ok(tree.root())
 }
 
+// Where a changed byte is found out: the leaf's number, the height, a secret, a public digest, the two digests of
+// the path.
+const CHANGES: [usize; 8] = [
+    3,
+    5,
+    5 + 16351,
+    5 + 32,
+    5 + 16383,
+    16389,
+    16389 + 32,
+    16389 + 63,
+];
+
+// A byte, the place of the fault, and the bits that are changed: a leaf past the tree, and heights past the bytes.
+const CUT: [(usize, u64, u8); 4] = [(0, 4, 0x80), (4, 4, 2), (4, 4, 0x13), (4, 16389, 1)];
+
+// The digest of each leaf's signature.
+const SIGNATURES: [&str; 4] = [
+    "425fcaf4f1ee5f2b50e79dc38b2e083a3cadeef8ddd6cc6276be6a8cf811a3dd",
+    "485c07749ac374467f9e23465a56198a0194e87be1ca91e467d4d3873146e287",
+    "653af79dfdaecc3f9d17f0e6f94b0f7a9f9d04d0c4c4906d87794243dd385236",
+    "8d542888d96954ea336b029c07b9461162b6da1c4722fe413b5ff51a01847c7e",
+];
+
+// What stands at a byte decides what is answered.
+fn changes_are_found(rt: &impl Abort, root: &Digest, bytes: &mut Vec<u8>) {
+    for at in CHANGES {
+        assert!(rt; at < bytes.len());
+        bytes[at] ^= 1;
+        assert_eq!(rt; checked(root, b"body", bytes), Ok(false), "byte {at}");
+        bytes[at] ^= 1;
+    }
+    for (at, place, mask) in CUT {
+        assert!(rt; at < bytes.len());
+        bytes[at] ^= mask;
+        assert_eq!(rt;
+            checked(root, b"body", bytes),
+            Err(Place(place)),
+            "byte {at}"
+        );
+        bytes[at] ^= mask;
+    }
+}
+
 #[test]
 fn each_leaf_signs(rt: HostRuntime) -> Result<(), Fail> {
-    // One changed byte in each part: the leaf's number, the height, a secret, a public digest, the two
-    // digests of the path. A leaf past the tree and a height past the bytes don't read.
-    let changes = [
-        3,
-        5,
-        5 + 16351,
-        5 + 32,
-        5 + 16383,
-        16389,
-        16389 + 32,
-        16389 + 63,
-    ];
-    let digests = [
-        "425fcaf4f1ee5f2b50e79dc38b2e083a3cadeef8ddd6cc6276be6a8cf811a3dd",
-        "485c07749ac374467f9e23465a56198a0194e87be1ca91e467d4d3873146e287",
-        "653af79dfdaecc3f9d17f0e6f94b0f7a9f9d04d0c4c4906d87794243dd385236",
-        "8d542888d96954ea336b029c07b9461162b6da1c4722fe413b5ff51a01847c7e",
-    ];
     let seed = Seed(SEED);
     for leaf in 0..4u32 {
-        let digest = digests.get(leaf as usize).copied().unwrap_or("");
+        let digest = SIGNATURES.get(leaf as usize).copied().unwrap_or("");
         let mut bytes = Vec::new(rt.alloc());
         let root = put_signature(rt.alloc(), &seed, leaf, &mut bytes)?;
         assert!(rt;
@@ -180,27 +207,7 @@ fn each_leaf_signs(rt: HostRuntime) -> Result<(), Fail> {
             Ok(false),
             "leaf {leaf}"
         );
-        for at in changes {
-            assert!(rt; at < bytes.len());
-            bytes[at] ^= 1;
-            assert_eq!(rt;
-                checked(&root, b"body", &bytes),
-                Ok(false),
-                "leaf {leaf}, byte {at}"
-            );
-            bytes[at] ^= 1;
-        }
-        let faults = [(0, 4, 0x80u8), (4, 4, 2), (4, 4, 0x13), (4, 16389, 1)];
-        for (at, place, mask) in faults {
-            assert!(rt; at < bytes.len());
-            bytes[at] ^= mask;
-            assert_eq!(rt;
-                checked(&root, b"body", &bytes),
-                Err(Place(place)),
-                "leaf {leaf}, byte {at}"
-            );
-            bytes[at] ^= mask;
-        }
+        changes_are_found(&rt, &root, &mut bytes);
     }
     Ok(())
 }

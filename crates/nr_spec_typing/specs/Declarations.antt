@@ -1,5 +1,6 @@
 -- The typing of a whole text, declaration by declaration: what it says, or the place of its first fault. Each
--- test stands where its token stands in the text.
+-- test stands where the token stands that a fault is placed at, so the order of the tests is that of the text. That two
+-- neighbours are alike is a fault at the second's name, before its number is looked at.
 use Rattle.std.specs.Prelude.{ℕ, Bool, true, false, ◌&&◌, ◌||◌, ◌==◌, not, List, [], ◌∷◌, ◌++◌, map, slice_get, length, count_by, nat_lt, nat_le, Option, Some, None, is_none, Result, Ok, Err}
 use Rattle.std.specs.List.{list_any}
 use Rattle.nr_chain.specs.declared.digest.Digest.{Digest}
@@ -85,16 +86,16 @@ abbrev pub same_number : Option (Digest × ℕ) → Option (RootText × Num) →
 same_number (Some key) (Some other) = key.1 == other.1.value
 same_number _ _ = false
 
--- a neighbour has this AS, and this address or this number of a key
+-- a neighbour has this AS, and this address or this session number
 abbrev pub is_like : Num → Num → Option (RootText × Num) → Neighbour → Bool
 is_like asn addr key n = n.asn == asn.value && (n.addr == addr.value || same_number n.key key)
 
--- a name that is new, of one of 256 at most, and no earlier one is like it
+-- the name is new, fewer than 256 neighbours stand before it, and none of them is like it
 abbrev pub is_neighbour_name : Known → Name → Num → Num → Option (RootText × Num) → Bool
 is_neighbour_name k name asn addr key =
     is_new k.names name && nat_lt (length k.neighbours) 256 && not (list_any (is_like asn addr key) k.neighbours)
 
--- the root of a key and its number, below 256
+-- the root of a neighbour's key, and the number below 256 under which it knows this network
 abbrev pub key_of : Option (RootText × Num) → Result (Option (Digest × ℕ)) ℕ
 key_of None = Ok None
 key_of (Some key) = (λ n. Some (key.0.digest, n)) <$> at_most 255 key.1
@@ -131,7 +132,7 @@ group k name texts = do
 
 -- ---- sets of prefixes
 
--- the greatest length of a pattern: `le` is from the prefix's own length to 32, which counts where there is none
+-- the greatest length of a pattern: without `le` the prefix's own length, with it a number from that length to 32
 abbrev pub most_of : ℕ → Option Num → Result ℕ ℕ
 most_of len None = Ok len
 most_of len (Some most) = wants (nat_le len most.value && nat_le most.value 32) most.span.from most.value

@@ -79,7 +79,7 @@ fits_step count (Typing-F.Compare left op right) = λ around. is_value count aro
 abbrev pub fits : ℕ → Typing → Fitting
 fits count = fold-Typing Fitting (fits_step count)
 
--- ---- how deep it nests, as in its text
+-- ---- how deep it nests, as in its canonical text. `implies` binds 0, `or` 1, `and` 2, and everything else 3.
 
 abbrev pub measured_step : Typing-F Measured → Measured
 measured_step (Typing-F.Not held) = record { binds = 3; levels = levels_within 3 held + 1 }
@@ -103,7 +103,7 @@ pub record IsPromise (count : ℕ) (p : Promise) : Type 0 where
   pub fits : fits count p.form [] ≡ true
   pub nests : (measured p.form).levels ≤ 64
 
--- the number of a neighbour's key is one of a neighbour
+-- the number under which a neighbour knows this network is below 256
 abbrev pub IsKeyNumber : Option (Digest × ℕ) → Type 0
 IsKeyNumber None = Unit {0}
 IsKeyNumber (Some key) = key.1 < 256

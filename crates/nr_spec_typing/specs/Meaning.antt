@@ -34,8 +34,8 @@ pub data Thing : Type 0 where
   neighbour : ℕ → Thing
   route : AttributeBlock → Thing
 
--- ---- variables by their numbers. In a formula that fits its place none is missing: there the answer for a
--- ---- missing one doesn't matter.
+-- ---- variables by their numbers. In a formula of a well typed text (`IsTyped` in Guarantees) none is missing, so the
+-- ---- answers for missing ones below are never used.
 
 abbrev pub neighbour_in : Option Thing → ℕ
 neighbour_in (Some (neighbour n)) = n

@@ -2,13 +2,13 @@
 use Rattle.std.specs.Prelude.{ℕ, List, [], ◌∷◌, Result, Ok, Err}
 use Rattle.nr_spec_wire.specs.Reading.{◌>>=◌}
 
--- this of what was found
+-- the function, applied to what was found
 infixr 11 ◌<$>◌
 abbrev pub ◌<$>◌ : {A B : Type 0} → (A → B) → Result A ℕ → Result B ℕ
 f <$> (Ok x) = Ok (f x)
 f <$> (Err place) = Err place
 
--- this of each, one after another
+-- the function, applied to each, one after another
 unfoldable pub all_of : {A B : Type 0} → (A → Result B ℕ) → List A → Result (List B) ℕ
 all_of f [] = Ok []
 all_of f (x ∷ xs) = do

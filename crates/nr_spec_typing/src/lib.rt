@@ -1,6 +1,6 @@
 //! What has to be believed about the meaning of a text of promises: what its names stand for, when it is
 //! well typed, and when a formula holds. The definitions stand in `specs/`; the code is the types of what a
-//! well typed text says.
+//! well typed text says and of the names in scope, and a list that stands in several places.
 #![tactic(auto)]
 
 mod law;

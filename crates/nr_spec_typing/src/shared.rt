@@ -7,7 +7,7 @@ use std::alloc::{AllocError, Global};
 use std::marker::Model;
 use std::rc::RcSlice;
 
-/// A list that is never changed. A further copy is the same list, and takes no memory.
+/// A list that is never changed, in several places at once. Sharing it copies nothing.
 #[derive(Debug, Drop)]
 pub struct Shared<T> {
     items: RcSlice<T>,
@@ -46,6 +46,7 @@ impl<T: Drop> Shared<T> {
 }
 
 impl<T> Shared<T> {
+    /// Its items.
     pub fn as_slice(&self) -> &[T]
         ensures { result.now ≡ self.now }
     {

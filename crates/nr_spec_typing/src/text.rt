@@ -6,8 +6,8 @@ use nr_prefix::Prefix;
 use nr_rule_syntax::Word;
 use sqlite_items::Items;
 
-/// A neighbour: its AS, its address, and the root of its signing key with the number that it gives to this
-/// network, where they are known.
+/// A neighbour: its AS, its address, and where they are known the root of its signing key and the number under which it
+/// knows this network's session.
 #[derive(Debug, Drop)]
 pub struct Neighbour {
     pub name: Word,
@@ -16,8 +16,8 @@ pub struct Neighbour {
     pub key: Option<(Digest, u16)>,
 }
 
-/// A promise: its grace in seconds, the prefixes at which alone it is judged, where there are some, and what
-/// must hold.
+/// A promise: its grace in seconds, the prefixes at which it is judged (with none, each prefix that stands), and
+/// what must hold.
 #[derive(Drop)]
 pub struct Promise {
     pub name: Word,

@@ -19,12 +19,19 @@ pub enum Value {
     Number(u32),
     /// The length of the prefix.
     Bits,
+    /// How many AS numbers the path counts.
     Length(u8),
+    /// The MULTI_EXIT_DISC, 0 where there is none.
     Med(u8),
+    /// The LOCAL_PREF, 0 where there is none.
     Pref(u8),
+    /// The ORIGIN, 0 where there is none.
     Origin(u8),
+    /// The first AS of the path, 0 unless its first segment is an AS_SEQUENCE.
     First(u8),
+    /// The last AS of the path, 0 unless its last segment is an AS_SEQUENCE.
     Last(u8),
+    /// The NEXT_HOP as a number, 0 where there is none.
     Hop(u8),
     /// The AS of a neighbour.
     Asn(Who),
@@ -71,7 +78,7 @@ pub enum Typing {
         route: u8,
         community: u32,
     },
-    /// The AS stands in the route's path.
+    /// The number stands in the route's path.
     Crosses {
         route: u8,
         term: Value,
