@@ -1,7 +1,7 @@
 #!/usr/bin/env python3
 """Writes the files of this folder and of the program's stored run anew, from the formats alone, and prints roots.
 
-The network AS 64500 answers with a log of four entries. A neighbour holds two authenticators that the
+The network AS 64500 answers with a log of four entries, kept under the file `promises`. A neighbour holds two authenticators that the
 network signed: one of entry 3 as it stands in the answer, and one of another entry 3, with another message. The
 network kept two logs, and the second authenticator shows it.
 
@@ -22,12 +22,21 @@ import logs
 
 AS = 64500
 SEED = bytes(range(32))
-PROMISES = b"network 64500; commit 60;\n"
+SMALLEST = b"network 64500; commit 60;\n"
+PROMISES = b"""network 64500;
+commit 60;
+neighbour transit as 64510 at 192.0.2.10;
+define own = 203.0.113.0/24 le 26;
+
+// The transit hears of our own prefixes alone.
+promise only_own grace 10 { sent(transit) implies prefix in own }
+"""
+MISTAKE = PROMISES.replace(b"sent(transit)", b"sent(transit_a)")
 SECOND = 1_000_000
 
 
 def sent(last_byte):
-    """A SEND to neighbour 0 of a message that withdraws 10.x.0.0/16, where x is this byte."""
+    """A SEND to neighbour 0, the transit, of a message that withdraws 10.x.0.0/16, where x is this byte."""
     message = b"\xff" * 16 + struct.pack(">HBH", 26, 2, 3) + bytes([16, 10, last_byte]) + b"\0\0"
     return struct.pack(">HB", 0, 1) + message
 
@@ -45,7 +54,7 @@ def log_of(last_byte):
 def smallest_log():
     """The smallest log that has an answer: a PROMISE and a COMMIT to the auditor, a microsecond apart."""
     log = logs.Log(AS)
-    log.add(0, logs.PROMISE, logs.promise(PROMISES, 0, 60))
+    log.add(0, logs.PROMISE, logs.promise(SMALLEST, 0, 60))
     log.add(1, logs.COMMIT, logs.commit(logs.AUDITOR, 0))
     return log
 
@@ -58,6 +67,8 @@ def write(folder, name, data):
 def write_example():
     tree = keys.Tree(SEED, 2)
     shown, hidden = log_of(2), log_of(3)
+    write(HERE, "promises", PROMISES)
+    write(HERE, "mistake", MISTAKE)
     write(HERE, "answer", shown.answer(lambda body: tree.sign(0, body)))
     write(HERE, "auths", logs.authenticators([
         shown.authenticator(3, lambda body: tree.sign(1, body)),
@@ -65,12 +76,14 @@ def write_example():
     ]))
     write(HERE, "root", tree.root.hex().encode() + b"\n")
     print("examples/root: root", tree.root.hex())
+    print("examples/check: malformed promise", MISTAKE.index(b"transit_a"))
     print("examples/audit: conflict 3 %d %s" % (6 * SECOND, hidden.values[3].hex()))
 
 
 def write_stored_run():
     tree = keys.Tree(SEED, 1)
     log = smallest_log()
+    write(DATA, "promise", SMALLEST)
     write(DATA, "answer", log.answer(lambda body: tree.sign(1, body)))
     write(DATA, "auths", logs.authenticators([]))
     print("crates/netreview/args: root", tree.root.hex())

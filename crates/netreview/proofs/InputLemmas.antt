@@ -1,7 +1,8 @@
--- A file that is there and within its limit is present.
-use Rattle.std.proofs.Common.{◌≡◌, ℕ, ◌≤◌, length, List, Option, Some, None, Ok, sym, ap, arith}
-use Rattle.std.specs.Prelude.{option_map}
+-- A file that is there and within its limit is present, and cutting what was read of it to its size leaves it whole.
+use Rattle.std.proofs.Common.{◌≡◌, ℕ, ◌≤◌, length, List, [], Option, Some, None, Ok, refl, sym, ap, ◌∙◌, arith}
+use Rattle.std.specs.Prelude.{option_map, nat_le, take}
 use Rattle.std.proofs.lemmas.Bool.{le-leb}
+use Rattle.std.proofs.lemmas.List.{take_all}
 use Rattle.nr_ports.specs.Ports.{bytes_of}
 use Rattle.netreview.specs.Command.{Input, input_limit, present}
 
@@ -12,3 +13,6 @@ present-within input (Some held) size bytes counted within whole =
     let is : size ≡ length held = cc in
     let small : length held ≤ input_limit input = omega arith in
     rw (le-leb (length held) (input_limit input) small) (ap (λ (b : List ℕ). Ok b) (sym (whole is)))
+
+pub taken_whole : (size : ℕ) (read file taken : List ℕ) → taken ≡ take size read → read ≡ file → size ≡ length file → taken ≡ file
+taken_whole size read file taken cut is all = cut ∙ ap (take size) is ∙ take_all size file (omega arith)

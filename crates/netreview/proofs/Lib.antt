@@ -1,6 +1,7 @@
 pub mod InputLemmas
 pub mod LinkLemmas
 pub mod WordLemmas
+pub mod AuditWordLemmas
 pub mod ReportLemmas
 pub mod WritingLemmas
 pub mod KeyLemmas

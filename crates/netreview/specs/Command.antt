@@ -6,25 +6,30 @@ use Rattle.nr_spec_wire.specs.Reading.{◌>>=◌}
 use Rattle.nr_spec_log.specs.Authenticator.{Authenticator, auths_of}
 use Rattle.nr_spec_log.specs.Answer.{answer_of}
 use Rattle.nr_spec_history.specs.KeyFiles.{Key, seed_of, key_file, key_root}
-use Rattle.nr_spec_history.specs.Report.{Fact, Form, Unsigned, Head, Short, outcome, line, report_text}
+use Rattle.nr_rule_syntax.specs.Printing.{file_text}
+use Rattle.nr_spec_history.specs.Report.{Fact, Form, Network, Unsigned, Head, Short, outcome, line, report_text}
 use Rattle.nr_ports.specs.Ports.{Contents}
-use Rattle.netreview.specs.Words.{AuditRequest, KeygenRequest, Request, Audit, Keygen, request_in}
+use Rattle.netreview.specs.Promises.{PromiseFile, promise_of}
+use Rattle.netreview.specs.Words.{AuditRequest, KeygenRequest, CheckRequest, Request, Audit, Keygen, Check, request_in}
 
 -- ---- input files
 
 pub data Input : Type 0 where
+  PromiseInput : Input
   AnswerInput : Input
   AuthsInput : Input
   SeedInput : Input
 
 -- the word for it in the lines that the program prints
 abbrev pub input_name : Input → List ℕ
+input_name PromiseInput = codes "promise"
 input_name AnswerInput = codes "answer"
 input_name AuthsInput = codes "auths"
 input_name SeedInput = codes "seed"
 
 -- its greatest size in bytes
 abbrev pub input_limit : Input → ℕ
+input_limit PromiseInput = 1048576
 input_limit AnswerInput = 2147483647
 input_limit AuthsInput = 1073741824
 input_limit SeedInput = 1048576
@@ -55,14 +60,21 @@ abbrev pub judged : {A : Type 0} → Result A Fact → Result A Refusal
 judged (Ok value) = Ok value
 judged (Err fact) = Err (Refused fact)
 
+-- what the promise file of this name says
+unfoldable pub promise_in : Contents → List ℕ → Result PromiseFile Refusal
+promise_in held name = do
+  text ← present PromiseInput (held name)
+  well_formed PromiseInput (promise_of text)
+
 -- the first refusal, or the conflicts
 unfoldable pub audit_of : Contents → AuditRequest → Result (List Authenticator) Refusal
 audit_of held q = do
+  promise ← promise_in held q.promise
   answer_bytes ← present AnswerInput (held q.answer)
   answer ← well_formed AnswerInput (answer_of answer_bytes)
   auths_bytes ← present AuthsInput (held q.auths)
   auths ← well_formed AuthsInput (auths_of auths_bytes)
-  judged (outcome q.root answer q.period auths)
+  judged (outcome q.root promise.says.network answer q.period auths)
 
 -- the first refusal, or the key that is made
 unfoldable pub keygen_of : Contents → KeygenRequest → Result Key Refusal
@@ -80,6 +92,7 @@ pub record Ending : Type 0 where
 
 abbrev pub fact_words : Fact → List (List ℕ)
 fact_words Form = codes "form" ∷ codes "answer" ∷ []
+fact_words (Network found wanted) = codes "network" ∷ decimal found ∷ decimal wanted ∷ []
 fact_words Unsigned = codes "head" ∷ codes "unsigned" ∷ []
 fact_words (Head head chain) = codes "head" ∷ encode_lower head ∷ encode_lower chain ∷ []
 fact_words (Short head to) = codes "short" ∷ decimal head ∷ decimal to ∷ []
@@ -102,6 +115,10 @@ report_ending conflicts = record { status = report_status conflicts; text = repo
 unfoldable pub key_ending : Key → Ending
 key_ending key = record { status = 0; text = line (codes "root" ∷ encode_lower (key_root key) ∷ []) }
 
+-- the canonical text of a promise file
+unfoldable pub promise_ending : PromiseFile → Ending
+promise_ending promise = record { status = 0; text = file_text promise.file }
+
 -- the report where nothing refuses it
 abbrev pub concluded : Result (List Authenticator) Refusal → Result Ending Refusal
 concluded found = found >>= λ conflicts. Ok (report_ending conflicts)
@@ -109,6 +126,10 @@ concluded found = found >>= λ conflicts. Ok (report_ending conflicts)
 -- the root where a key is made
 abbrev pub made : Result Key Refusal → Result Ending Refusal
 made found = found >>= λ key. Ok (key_ending key)
+
+-- the canonical text where the file says something
+abbrev pub printed : Result PromiseFile Refusal → Result Ending Refusal
+printed found = found >>= λ promise. Ok (promise_ending promise)
 
 abbrev pub ended : Result Ending Refusal → Ending
 ended (Ok ending) = ending
@@ -130,6 +151,7 @@ memory_ending = record { status = 6; text = line (codes "memory" ∷ []) }
 abbrev pub decided : Contents → Request → Result Ending Refusal
 decided held (Audit q) = concluded (audit_of held q)
 decided held (Keygen q) = made (keygen_of held q)
+decided held (Check q) = printed (promise_in held q.promise)
 
 abbrev pub answered : Contents → Option Request → Ending
 answered held None = usage_ending
@@ -153,6 +175,7 @@ key_output name (Err refusal) = None
 abbrev pub output_of : Contents → Request → Option Output
 output_of held (Audit q) = None
 output_of held (Keygen q) = key_output q.key (keygen_of held q)
+output_of held (Check q) = None
 
 abbrev pub output_in : Contents → Option Request → Option Output
 output_in held None = None

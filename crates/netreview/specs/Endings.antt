@@ -1,7 +1,6 @@
 -- What the endings of the code stand for in the definitions.
 use Rattle.std.specs.Prelude.{◌≡◌, ℕ, List}
 use Rattle.std.specs.List.{flat_map}
-use Rattle.std.specs.String.{string_bytes}
 use Rattle.nr_spec_log.specs.Authenticator.{Authenticator}
 use Rattle.nr_spec_history.specs.Report.{conflict_line}
 use Rattle.nr_spec_history.specs.KeyFiles.{Key}
@@ -12,7 +11,7 @@ use Rattle.netreview.specs.declared.ending.Ending as declared_ending
 use Rattle.netreview.specs.declared.ending.Fixed as declared_fixed
 
 abbrev pub ending_of : declared_ending.Ending → command.Ending
-ending_of e = record { status = e.status; text = string_bytes e.text }
+ending_of e = record { status = e.status; text = e.text.items }
 
 abbrev pub fixed_of : declared_fixed.Fixed → command.Ending
 fixed_of e = record { status = e.status; text = e.text.now }

@@ -1,4 +1,5 @@
 pub mod Words
+pub mod Promises
 pub mod Command
 pub mod Views
 pub mod Running

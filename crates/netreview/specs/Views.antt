@@ -7,7 +7,13 @@ use Rattle.nr_ports.specs.declared.fault.ReadFault.{ReadFault}
 use Rattle.nr_ports.specs.declared.fault.ReadFault.TheVariants as read
 use Rattle.nr_ports.specs.declared.fault.WriteFault.{WriteFault}
 use Rattle.nr_ports.specs.declared.fault.WriteFault.TheVariants as write
+use Rattle.nr_rule_syntax.specs.declared.fault.ParseError.{ParseError}
+use Rattle.nr_rule_syntax.specs.declared.fault.ParseError.TheVariants as parse
+use Rattle.nr_rule_types.specs.declared.fault.TypeError.{TypeError}
+use Rattle.nr_rule_types.specs.declared.fault.TypeError.TheVariants as typing
 use Rattle.netreview.specs.Command as command
+use Rattle.netreview.specs.Promises as promises
+use Rattle.netreview.specs.declared.promise_file.PromiseFile as declared_promise
 use Rattle.netreview.specs.declared.ending.Ending as declared_ending
 use Rattle.netreview.specs.declared.input.Input.{Input}
 use Rattle.netreview.specs.declared.input.Input.TheVariants as input
@@ -19,12 +25,14 @@ use Rattle.netreview.specs.declared.refusal.Stop.{Stop}
 use Rattle.netreview.specs.declared.refusal.Stop.TheVariants as stop
 
 abbrev pub input_of : Input → command.Input
+input_of input.Promise = command.PromiseInput
 input_of input.Answer = command.AnswerInput
 input_of input.Auths = command.AuthsInput
 input_of input.Seed = command.SeedInput
 
 abbrev pub fact_of : Fact → report.Fact
 fact_of fact.Form = report.Form
+fact_of (fact.Network found wanted) = report.Network found wanted
 fact_of fact.Unsigned = report.Unsigned
 fact_of (fact.Head head chain) = report.Head head.0 chain.0
 fact_of (fact.Short head to) = report.Short head to
@@ -42,6 +50,19 @@ seed_bytes seed = seed.0
 abbrev pub stop_of : ReadFault → Stop
 stop_of read.Failed = stop.ReadFault
 stop_of read.Memory = stop.Memory
+
+-- why a promise file that the grammar refuses ends a command
+abbrev pub unread_of : ParseError → Stop
+unread_of (parse.At place) = stop.Refused (refusal.Malformed input.Promise place)
+unread_of parse.Memory = stop.Memory
+
+-- why a promise file that the typing refuses ends a command
+abbrev pub untyped_of : TypeError → Stop
+untyped_of (typing.At place) = stop.Refused (refusal.Malformed input.Promise place)
+untyped_of typing.Memory = stop.Memory
+
+abbrev pub promise_file_of : declared_promise.PromiseFile → promises.PromiseFile
+promise_file_of p = record { file = p.file; says = p.says }
 
 -- why a file that isn't written in whole ends a command
 abbrev pub halt_of : WriteFault → Stop

@@ -1,5 +1,5 @@
 -- The words of the command line: which lists of words are taken, and what they ask for.
-use Rattle.std.specs.Prelude.{ℕ, Bool, true, false, ◌&&◌, nat_le, if◌then◌else◌, List, [], ◌∷◌, length, slice_get, Option, None, Some, codes}
+use Rattle.std.specs.Prelude.{ℕ, Bool, true, false, ◌&&◌, ◌||◌, nat_le, if◌then◌else◌, List, [], ◌∷◌, length, slice_get, Option, None, Some, codes}
 use Rattle.std.specs.Result.{result_ok}
 use Rattle.std.specs.Str.{bytes_eq, all_ascii_digits}
 use Rattle.std.specs.Str.Parse.{digits_value}
@@ -50,17 +50,20 @@ value_at values at = slice_get values.options at >>= λ value. value
 abbrev pub required : List ℕ → OptionRule
 required name = record { name = name; required = true }
 
--- `audit --root HEX --answer F --auths F --from N --to N`
+-- `audit --root HEX --promise F --answer F --auths F --from N --to N`
 abbrev pub audit_grammar : Grammar
 audit_grammar = record {
   command = codes "audit";
-  options = required (codes "root") ∷ required (codes "answer") ∷ required (codes "auths") ∷ required (codes "from") ∷ required (codes "to") ∷ [];
+  options =
+      required (codes "root") ∷ required (codes "promise") ∷ required (codes "answer") ∷ required (codes "auths")
+      ∷ required (codes "from") ∷ required (codes "to") ∷ [];
   files = false;
 }
 
--- what `audit` is asked for: the root of the audited network, the names of two files, and a period
+-- what `audit` is asked for: the root of the audited network, the names of three files, and a period
 pub record AuditRequest : Type 0 where
   pub root : List ℕ
+  pub promise : List ℕ
   pub answer : List ℕ
   pub auths : List ℕ
   pub period : Period
@@ -69,15 +72,18 @@ pub record AuditRequest : Type 0 where
 unfoldable pub audit_in : Values → Option AuditRequest
 audit_in values = do
   root_word ← value_at values 0
-  answer ← value_at values 1
-  auths ← value_at values 2
-  from_word ← value_at values 3
-  to_word ← value_at values 4
+  promise ← value_at values 1
+  answer ← value_at values 2
+  auths ← value_at values 3
+  from_word ← value_at values 4
+  to_word ← value_at values 5
   root ← root_in root_word
   from ← number_in from_word
   to ← number_in to_word
   period ← period_between from to
-  if bytes_eq answer auths then None else Some (record { root = root; answer = answer; auths = auths; period = period })
+  if bytes_eq promise answer || (bytes_eq promise auths || bytes_eq answer auths)
+    then None
+    else Some (record { root = root; promise = promise; answer = answer; auths = auths; period = period })
 
 -- `keygen --as N --height N --seed F --key F`
 abbrev pub keygen_grammar : Grammar
@@ -111,11 +117,25 @@ keygen_in values = do
   height ← number_from 1 most_height height_word
   if bytes_eq seed key then None else Some (record { asn = asn; height = height; seed = seed; key = key })
 
+-- `check --promise F`
+abbrev pub check_grammar : Grammar
+check_grammar = record { command = codes "check"; options = required (codes "promise") ∷ []; files = false }
+
+-- what `check` is asked for: the name of a promise file
+pub record CheckRequest : Type 0 where
+  pub promise : List ℕ
+
+unfoldable pub check_in : Values → Option CheckRequest
+check_in values = do
+  promise ← value_at values 0
+  Some (record { promise = promise })
+
 -- ---- the table of commands
 
 pub data Request : Type 0 where
   Audit : (audit : AuditRequest) → Request
   Keygen : (keygen : KeygenRequest) → Request
+  Check : (check : CheckRequest) → Request
 
 abbrev pub audit_request : List (List ℕ) → Option Request
 audit_request words = values_in audit_grammar words >>= λ values. audit_in values >>= λ audit. Some (Audit audit)
@@ -123,18 +143,23 @@ audit_request words = values_in audit_grammar words >>= λ values. audit_in valu
 abbrev pub keygen_request : List (List ℕ) → Option Request
 keygen_request words = values_in keygen_grammar words >>= λ values. keygen_in values >>= λ keygen. Some (Keygen keygen)
 
+abbrev pub check_request : List (List ℕ) → Option Request
+check_request words = values_in check_grammar words >>= λ values. check_in values >>= λ check. Some (Check check)
+
 -- what the words ask for, by the command word, which stands first
 unfoldable pub request_in : List (List ℕ) → Option Request
 request_in [] = None
 request_in (command ∷ words) =
     if bytes_eq command (codes "audit") then audit_request (command ∷ words)
     else if bytes_eq command (codes "keygen") then keygen_request (command ∷ words)
+    else if bytes_eq command (codes "check") then check_request (command ∷ words)
     else None
 
 -- the files that a request may change
 abbrev pub outputs_of : Request → List (List ℕ)
 outputs_of (Audit q) = []
 outputs_of (Keygen q) = q.key ∷ []
+outputs_of (Check q) = []
 
 -- the files that the words allow to be changed
 abbrev pub outputs_in : Option Request → List (List ℕ)

@@ -15,6 +15,7 @@ use crate::conflicts::conflict_lines;
 use crate::ending::Ending;
 use crate::input::Input;
 use crate::links::link_entries;
+use crate::promise_file::read_promise;
 use crate::reading::{read_answer, read_auths, read_input};
 use crate::refusal::{Fact, Refusal, Stop};
 use crate::request::AuditRequest;
@@ -31,12 +32,12 @@ fn report(alloc: Global, lines: String) -> Result<Ending, AllocError>
     if lines.as_str().is_empty() {
         return Ok(Ending {
             status: 0,
-            text: String::from_str(alloc, "clean\n")?,
+            text: String::from_str(alloc, "clean\n")?.into_bytes(),
         });
     }
     Ok(Ending {
         status: 1,
-        text: lines,
+        text: lines.into_bytes(),
     })
 }
 
@@ -44,16 +45,23 @@ fn report(alloc: Global, lines: String) -> Result<Ending, AllocError>
 fn judge(
     alloc: Global,
     request: &AuditRequest<'_>,
+    network: u32,
     answer: &Answer<'_>,
     auths: &Auths<'_>,
 ) -> Result<Ending, Stop>
-    ensures value { Decides ending_of result (concluded (judged (outcome request.now.root.0 answer.now (period_of request.now.period) auths.now))) }
+    ensures value { Decides ending_of result (concluded (judged (outcome request.now.root.0 network answer.now (period_of request.now.period) auths.now))) }
     ensures status { IfOk result (λ e. e.status ≤ 1) }
     ensures reads { result ≢ Err Stop.ReadFault }
     ensures writes { result ≢ Err Stop.WriteFault }
 {
     if answer.first() != 1 {
         return Err(Stop::Refused(Refusal::Refused(Fact::Form)));
+    }
+    if answer.asn() != network {
+        return Err(Stop::Refused(Refusal::Refused(Fact::Network {
+            found: answer.asn(),
+            wanted: network,
+        })));
     }
     let head = answer.head();
     if !is_auth_signed(&request.root, &head) {
@@ -90,9 +98,10 @@ pub fn audit<F: Files>(
     ensures writes { F.write_faults files.new ≡ F.write_faults files.old }
     ensures no_write { result ≢ Err Stop.WriteFault }
 {
+    let promise = read_promise(alloc, files, request.promise)?;
     let answer_bytes = read_input(alloc, files, Input::Answer, request.answer)?;
     let answer = read_answer(&answer_bytes)?;
     let auths_bytes = read_input(alloc, files, Input::Auths, request.auths)?;
     let auths = read_auths(&auths_bytes)?;
-    judge(alloc, request, &answer, &auths)
+    judge(alloc, request, promise.says.network(), &answer, &auths)
 }

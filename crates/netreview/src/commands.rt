@@ -10,6 +10,7 @@ ghost use Rattle.netreview.specs.Requests.{request_of};
 ghost use Rattle.netreview.specs.Endings.{ending_of};
 
 use crate::audit::audit;
+use crate::check::check_promise;
 use crate::ending::Ending;
 use crate::keygen::keygen;
 use crate::refusal::Stop;
@@ -40,5 +41,6 @@ pub fn perform<F: Files>(
     match request {
         Request::Audit(audit_request) => audit(alloc, files, audit_request),
         Request::Keygen(keygen_request) => keygen(alloc, files, keygen_request),
+        Request::Check(check_request) => check_promise(alloc, files, check_request),
     }
 }

@@ -20,7 +20,7 @@ pub struct Fixed {
 #[derive(Debug, Drop)]
 pub struct Ending {
     pub status: u8,
-    pub text: String,
+    pub text: Vec<u8>,
 }
 
 /// The words aren't taken.
@@ -70,6 +70,9 @@ fn fact_ending(alloc: Global, fact: Fact) -> Result<Ending, AllocError>
 {
     let text = match fact {
         Fact::Form => String::from_str(alloc, "refused form answer\n")?,
+        Fact::Network { found, wanted } => {
+            format!(in alloc; "refused network {found} {wanted}\n")?
+        }
         Fact::Unsigned => String::from_str(alloc, "refused head unsigned\n")?,
         Fact::Head { head, chain } => {
             let head = hex::encode(alloc, head.0.as_slice())?;
@@ -78,7 +81,10 @@ fn fact_ending(alloc: Global, fact: Fact) -> Result<Ending, AllocError>
         }
         Fact::Short { head, to } => format!(in alloc; "refused short {head} {to}\n")?,
     };
-    Ok(Ending { status: 7, text })
+    Ok(Ending {
+        status: 7,
+        text: text.into_bytes(),
+    })
 }
 
 /// The status and the line of a refusal.
@@ -91,19 +97,28 @@ pub fn refused(alloc: Global, refusal: Refusal) -> Result<Ending, AllocError>
         Refusal::NoFile(input) => {
             let name = name_of(input);
             let text = format!(in alloc; "refused nofile {name}\n")?;
-            Ok(Ending { status: 7, text })
+            Ok(Ending {
+                status: 7,
+                text: text.into_bytes(),
+            })
         }
         Refusal::Limit { input, found } => {
             let name = name_of(input);
             let most = limit_of(input);
             let text = format!(in alloc; "refused limit {name} {found} {most}\n")?;
-            Ok(Ending { status: 7, text })
+            Ok(Ending {
+                status: 7,
+                text: text.into_bytes(),
+            })
         }
         Refusal::Malformed(input, place) => {
             let name = name_of(input);
             let at = place.0;
             let text = format!(in alloc; "malformed {name} {at}\n")?;
-            Ok(Ending { status: 3, text })
+            Ok(Ending {
+                status: 3,
+                text: text.into_bytes(),
+            })
         }
         Refusal::Refused(fact) => fact_ending(alloc, fact),
     }

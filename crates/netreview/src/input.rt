@@ -7,6 +7,7 @@ ghost use Rattle.netreview.specs.Views.{input_of};
 /// An input file, by what it is for.
 #[derive(Clone, Copy, Debug, PartialEq, Eq)]
 pub enum Input {
+    Promise,
     Answer,
     Auths,
     Seed,
@@ -17,6 +18,7 @@ pub fn name_of(input: Input) -> &'static str
     ensures { result.now ≡ input_name (input_of input) }
 {
     match input {
+        Input::Promise => "promise",
         Input::Answer => "answer",
         Input::Auths => "auths",
         Input::Seed => "seed",
@@ -28,6 +30,7 @@ pub fn limit_of(input: Input) -> u64
     ensures { result ≡ input_limit (input_of input) }
 {
     match input {
+        Input::Promise => 1_048_576,
         Input::Answer => 2_147_483_647,
         Input::Auths => 1_073_741_824,
         Input::Seed => 1_048_576,

@@ -63,7 +63,10 @@ fn key_ending(alloc: Global, request: &KeygenRequest<'_>, seed: &Seed) -> Result
 {
     let root = key_root(alloc, request, seed)?;
     let text = root_line(alloc, &root)?;
-    Ok(Ending { status: 0, text })
+    Ok(Ending {
+        status: 0,
+        text: text.into_bytes(),
+    })
 }
 
 // The seed of the key that is asked for.

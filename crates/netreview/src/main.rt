@@ -2,6 +2,7 @@
 #![tactic(auto)]
 
 mod audit;
+mod check;
 mod commands;
 mod conflicts;
 mod ending;
@@ -10,6 +11,7 @@ mod key_request;
 mod keygen;
 mod links;
 mod numbers;
+mod promise_file;
 mod reading;
 mod refusal;
 mod request;

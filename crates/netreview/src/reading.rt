@@ -1,13 +1,13 @@
 //! Reading an input file in whole.
 
-ghost use Rattle.std.specs.Prelude.{◌≡◌, ◌≢◌, Some};
+ghost use Rattle.std.specs.Prelude.{◌≡◌, ◌≢◌, ◌≤◌, length, Some, IfOk};
 ghost use Rattle.nr_spec_wire.specs.Reading.{Answers};
 ghost use Rattle.nr_spec_log.specs.Answer.{answer_of};
 ghost use Rattle.nr_spec_log.specs.Authenticator.{auths_of};
 ghost use Rattle.nr_spec_history.specs.KeyFiles.{seed_of};
 ghost use Rattle.nr_bytes.specs.Views.{offset_of};
 ghost use Rattle.nr_ports.specs.Ports.{Contents};
-ghost use Rattle.netreview.specs.Command.{present, well_formed, AnswerInput, AuthsInput, SeedInput};
+ghost use Rattle.netreview.specs.Command.{present, input_limit, well_formed, AnswerInput, AuthsInput, SeedInput};
 ghost use Rattle.netreview.specs.Views.{input_of, seed_bytes, Decides, Settles, CountsReads};
 
 use crate::input::{Input, limit_of};
@@ -26,6 +26,7 @@ pub fn read_input<F: Files>(
     name: &str,
 ) -> Result<Vec<u8>, Stop>
     ensures value { (held : Contents) → F.holds files.old ≡ Some held → Decides (λ bytes. bytes.items) result (present (input_of input) (held name.now)) }
+    ensures limit { IfOk result (λ bytes. length bytes.items ≤ input_limit (input_of input)) }
     ensures same { F.holds files.new ≡ F.holds files.old }
     ensures cause { CountsReads (F.read_faults files.old) (F.read_faults files.new) result }
     ensures writes { F.write_faults files.new ≡ F.write_faults files.old }
@@ -37,7 +38,9 @@ pub fn read_input<F: Files>(
     if limit_of(input) < found {
         return Err(Stop::Refused(Refusal::Limit { input, found }));
     }
-    Ok(read_whole(alloc, files, name, found)?)
+    let mut bytes = read_whole(alloc, files, name, found)?;
+    bytes.truncate(found as usize);
+    Ok(bytes)
 }
 
 /// What an answer file holds.

@@ -2,12 +2,14 @@
 
 ghost use Rattle.std.specs.Prelude.{◌≡◌};
 ghost use Rattle.netreview.specs.declared.refusal.Stop.TheVariants as stop;
-ghost use Rattle.netreview.specs.Views.{stop_of, halt_of};
+ghost use Rattle.netreview.specs.Views.{stop_of, halt_of, unread_of, untyped_of};
 
 use crate::input::Input;
 use nr_bytes::{Memory, Place};
 use nr_chain::Digest;
 use nr_ports::{Failed, ReadFault, WriteFault};
+use nr_rule_syntax::ParseError;
+use nr_rule_types::TypeError;
 use std::alloc::{AllocError, AllocFailed};
 
 /// What an answer is refused for, with the values that show it.
@@ -15,6 +17,8 @@ use std::alloc::{AllocError, AllocFailed};
 pub enum Fact {
     /// It doesn't start with entry 1.
     Form,
+    /// It is of another AS than the promise file.
+    Network { found: u32, wanted: u32 },
     /// Its head isn't signed under the audited root.
     Unsigned,
     /// Its head has another hash than the chain's last value.
@@ -79,6 +83,28 @@ impl From<WriteFault> for Stop {
         match fault {
             WriteFault::Failed => Stop::WriteFault,
             WriteFault::Memory => Stop::Memory,
+        }
+    }
+}
+
+impl From<ParseError> for Stop {
+    ghost from_gives = { λ fault e. e ≡ unread_of fault };
+
+    fn from(fault: ParseError) -> Stop {
+        match fault {
+            ParseError::At(place) => Stop::Refused(Refusal::Malformed(Input::Promise, place)),
+            ParseError::Memory => Stop::Memory,
+        }
+    }
+}
+
+impl From<TypeError> for Stop {
+    ghost from_gives = { λ fault e. e ≡ untyped_of fault };
+
+    fn from(fault: TypeError) -> Stop {
+        match fault {
+            TypeError::At(place) => Stop::Refused(Refusal::Malformed(Input::Promise, place)),
+            TypeError::Memory => Stop::Memory,
         }
     }
 }

@@ -3,8 +3,8 @@
 ghost use Rattle.std.specs.Prelude.{◌≡◌, map, option_map, IfOk};
 ghost use Rattle.std.specs.String.{string_bytes};
 ghost use Rattle.nr_words.specs.Views.{given_by};
-ghost use Rattle.netreview.specs.Words.{audit_in, audit_request, keygen_in, keygen_request, request_in, value_at};
-ghost use Rattle.netreview.specs.Requests.{audit_request_of, keygen_request_of, request_of};
+ghost use Rattle.netreview.specs.Words.{audit_in, audit_request, check_in, check_request, keygen_in, keygen_request, request_in, value_at};
+ghost use Rattle.netreview.specs.Requests.{audit_request_of, check_request_of, keygen_request_of, request_of};
 
 use crate::key_request::KeygenRequest;
 use crate::numbers::{Period, number_between, number_of, period_from};
@@ -19,6 +19,10 @@ const AUDIT: Grammar = Grammar {
     options: &[
         OptionRule {
             name: "root",
+            required: true,
+        },
+        OptionRule {
+            name: "promise",
             required: true,
         },
         OptionRule {
@@ -64,17 +68,33 @@ const KEYGEN: Grammar = Grammar {
     files: false,
 };
 
+const CHECK: Grammar = Grammar {
+    command: "check",
+    options: &[OptionRule {
+        name: "promise",
+        required: true,
+    }],
+    files: false,
+};
+
 const MOST_ASN: u64 = 4_294_967_295;
 
 const MOST_HEIGHT: u64 = 16;
 
-/// What `audit` is asked for: the root of the audited network, the names of two files, and a period.
+/// What `audit` is asked for: the root of the audited network, the names of three files, and a period.
 #[derive(Clone, Copy, Debug)]
 pub struct AuditRequest<'a> {
     pub root: Digest,
+    pub promise: &'a str,
     pub answer: &'a str,
     pub auths: &'a str,
     pub period: Period,
+}
+
+/// What `check` is asked for: the name of a promise file.
+#[derive(Clone, Copy, Debug)]
+pub struct CheckRequest<'a> {
+    pub promise: &'a str,
 }
 
 /// What the words ask for.
@@ -82,6 +102,7 @@ pub struct AuditRequest<'a> {
 pub enum Request<'a> {
     Audit(AuditRequest<'a>),
     Keygen(KeygenRequest<'a>),
+    Check(CheckRequest<'a>),
 }
 
 // The value of the option at a place of the grammar.
@@ -99,19 +120,21 @@ fn audit_from<'a>(values: &Values<'a>) -> Option<AuditRequest<'a>>
     ensures { option_map audit_request_of result ≡ audit_in (given_by values.now) }
 {
     let root_word = value_of(values, 0)?;
-    let answer = value_of(values, 1)?;
-    let auths = value_of(values, 2)?;
-    let from_word = value_of(values, 3)?;
-    let to_word = value_of(values, 4)?;
+    let promise = value_of(values, 1)?;
+    let answer = value_of(values, 2)?;
+    let auths = value_of(values, 3)?;
+    let from_word = value_of(values, 4)?;
+    let to_word = value_of(values, 5)?;
     let root = root_of(root_word)?;
     let from = number_of(from_word)?;
     let to = number_of(to_word)?;
     let period = period_from(from, to)?;
-    if answer == auths {
+    if promise == answer || promise == auths || answer == auths {
         return None;
     }
     Some(AuditRequest {
         root,
+        promise,
         answer,
         auths,
         period,
@@ -163,6 +186,26 @@ fn keygen_words<'a>(alloc: Global, words: &'a [String]) -> Result<Option<Request
     }
 }
 
+#[tactic(auto, unfolding(crate::specs::Words::check_in))]
+fn check_from<'a>(values: &Values<'a>) -> Option<CheckRequest<'a>>
+    ensures { option_map check_request_of result ≡ check_in (given_by values.now) }
+{
+    let promise = value_of(values, 0)?;
+    Some(CheckRequest { promise })
+}
+
+fn check_words<'a>(alloc: Global, words: &'a [String]) -> Result<Option<Request<'a>>, Memory>
+    ensures { IfOk result (λ request. option_map request_of request ≡ check_request (map string_bytes words.now)) }
+{
+    let Some(values) = values_of(alloc, &CHECK, words)? else {
+        return Ok(None);
+    };
+    match check_from(&values) {
+        None => Ok(None),
+        Some(check) => Ok(Some(Request::Check(check))),
+    }
+}
+
 /// What the words ask for. `None` exactly where they aren't taken.
 #[tactic(auto, unfolding(crate::specs::Words::request_in))]
 pub fn request_from<'a>(alloc: Global, words: &'a [String]) -> Result<Option<Request<'a>>, Memory>
@@ -176,6 +219,9 @@ pub fn request_from<'a>(alloc: Global, words: &'a [String]) -> Result<Option<Req
     }
     if command.as_str() == "keygen" {
         return keygen_words(alloc, words);
+    }
+    if command.as_str() == "check" {
+        return check_words(alloc, words);
     }
     Ok(None)
 }

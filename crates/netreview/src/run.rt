@@ -18,13 +18,13 @@ use nr_ports::{Files, Sink, WriteFault, write_all};
 use std::alloc::Global;
 
 // Offers a text to the sink, and answers the status: 5 where the sink failed, 6 where it found no memory.
-fn deliver<S: Sink>(out: &mut S, status: u8, text: &str) -> u8
+fn deliver<S: Sink>(out: &mut S, status: u8, text: &[u8]) -> u8
     ensures delivers { Delivers (S.taken out.old) (S.taken out.new) (Rose (S.faults out.old) (S.faults out.new)) (record { status = status; text = text.now }) result }
     ensures fault { result ≡ 5 → status ≢ 5 → Rose (S.faults out.old) (S.faults out.new) }
     ensures same { result ≢ 5 → S.faults out.new ≡ S.faults out.old }
     ensures status { (result ≡ status) ⊎ ((result ≡ 5) ⊎ (result ≡ 6)) }
 {
-    match write_all(out, text.as_bytes()) {
+    match write_all(out, text) {
         Ok(()) => status,
         Err(WriteFault::Failed) => 5,
         Err(WriteFault::Memory) => 6,
@@ -37,7 +37,7 @@ fn deliver_fixed<S: Sink>(out: &mut S, ending: Fixed) -> u8
     ensures same { result ≢ 5 → S.faults out.new ≡ S.faults out.old }
     ensures status { (result ≡ ending.status) ⊎ ((result ≡ 5) ⊎ (result ≡ 6)) }
 {
-    deliver(out, ending.status, ending.text)
+    deliver(out, ending.status, ending.text.as_bytes())
 }
 
 // Does what is asked for, and offers its ending.
@@ -68,19 +68,19 @@ fn run_request<F: Files, S: Sink>(
     ensures reading_writes { outputs_in (Some (request_of request.now)) ≡ [] → F.write_faults files.new ≡ F.write_faults files.old }
 {
     match perform(alloc, files, request) {
-        Ok(ending) => deliver(out, ending.status, ending.text.as_str()),
+        Ok(ending) => deliver(out, ending.status, &ending.text),
         Err(Stop::ReadFault) => deliver_fixed(out, read_fault()),
         Err(Stop::WriteFault) => deliver_fixed(out, write_fault()),
         Err(Stop::Memory) => deliver_fixed(out, out_of_memory()),
         Err(Stop::Refused(refusal)) => match refused(alloc, refusal) {
-            Ok(ending) => deliver(out, ending.status, ending.text.as_str()),
+            Ok(ending) => deliver(out, ending.status, &ending.text),
             Err(_) => deliver_fixed(out, out_of_memory()),
         },
     }
 }
 
-/// Runs the command that the words after the program's name ask for, and answers the status. No promise file
-/// is read yet: an authenticator that the audited network signed accuses by what it states alone.
+/// Runs the command that the words after the program's name ask for, and answers the status. An audit reads what
+/// the network promised, and judges none of it yet: it finds conflicts alone.
 pub fn run<F: Files, S: Sink>(alloc: Global, words: &[String], files: &mut F, out: &mut S) -> u8
     // One ending is offered: the one that the words and the files give, where these tell what they hold,
     // or that of a fault of the files, or that of want of memory. The sink has it whole, unless it failed or found no

@@ -24,6 +24,14 @@ const SHORT_ROOT: &str = "1a2ebdedd74930ef4334aafba6e1eec56331b88ee789406e92066f
 
 const T0: &[u8; 26] = b"network 64500; commit 60;\n";
 
+const SHORT: &[u8; 14] = b"network 64500;";
+
+const WITHOUT_ELSE: &[u8; 157] = b"network 64500; commit 60;
+neighbour p as 64501 at 192.0.2.1;
+group peers = p;
+promise t grace 0 { all n in peers { if r = sent(n) then r has 65000:1 end } }
+";
+
 // The chain values of entries 1 and 2 of the smallest log, and of entry 2 where entry 1 has the time 1:
 // computed from their definition by another program.
 const SECOND: &str = "7bc86539f23b7de5009eb67b51d7faebe17048c1976906c8936419ad530a37fe";
@@ -91,6 +99,7 @@ fn smallest(alloc: Global) -> Result<Vec<u8>, Fail> {
 
 fn row_files(alloc: Global) -> Result<MemFiles, Fail> {
     let mut files = MemFiles::new(alloc);
+    files.put("p", T0)?;
     files.put("a", smallest(alloc)?.as_slice())?;
     files.put("t", b"NRT1")?;
     Ok(files)
@@ -109,7 +118,8 @@ fn audit_words(alloc: Global, from: &str, to: &str) -> Result<Vec<String>, Alloc
     words_of(
         alloc,
         &[
-            "audit", "--root", ROOT, "--answer", "a", "--auths", "t", "--from", from, "--to", to,
+            "audit", "--root", ROOT, "--promise", "p", "--answer", "a", "--auths", "t", "--from",
+            from, "--to", to,
         ],
     )
 }
@@ -225,7 +235,7 @@ fn names_the_first_malformed_field(rt: HostRuntime) -> Result<(), Fail> {
     );
     // An answer's fault goes before a fault at the reading of the authenticators.
     files.put("a", b"NRA")?;
-    files.fail_call(files.calls().saturating_add(3))?;
+    files.fail_call(files.calls().saturating_add(5))?;
     assert!(rt;
         gives(
             alloc,
@@ -321,11 +331,12 @@ fn prints_signed_conflicts_in_file_order(rt: HostRuntime) -> Result<(), Fail> {
     Ok(())
 }
 
-// Whether an audit under this root of this file of authenticators gives this status and this text.
+// Whether an audit under this root of these files of promises and authenticators gives this status and this text.
 fn audit_gives(
     alloc: Global,
     files: &mut MemFiles,
     root: &str,
+    promise: &str,
     auths: &str,
     status: u8,
     text: &str,
@@ -333,7 +344,19 @@ fn audit_gives(
     let words = words_of(
         alloc,
         &[
-            "audit", "--root", root, "--answer", "a", "--auths", auths, "--from", "0", "--to", "0",
+            "audit",
+            "--root",
+            root,
+            "--promise",
+            promise,
+            "--answer",
+            "a",
+            "--auths",
+            auths,
+            "--from",
+            "0",
+            "--to",
+            "0",
         ],
     )?;
     Ok(gives(alloc, words.as_slice(), files, status, text))
@@ -350,12 +373,29 @@ fn takes_a_root_of_64_digits(rt: HostRuntime) -> Result<(), Fail> {
         ("", 2, "usage\n"),
     ] {
         assert!(rt;
-            audit_gives(alloc, &mut files, root, "t", status, text)?,
+            audit_gives(alloc, &mut files, root, "p", "t", status, text)?,
             "{root}"
         );
     }
-    assert!(rt; audit_gives(alloc, &mut files, ROOT, "u", 7, "refused nofile auths\n")?);
-    assert!(rt; audit_gives(alloc, &mut files, ROOT, "a", 2, "usage\n")?);
+    Ok(())
+}
+
+#[test]
+fn takes_three_files_of_three_names(rt: HostRuntime) -> Result<(), Fail> {
+    let alloc = rt.alloc();
+    let mut files = row_files(alloc)?;
+    for (promise, auths, status, text) in [
+        ("p", "u", 7, "refused nofile auths\n"),
+        ("q", "u", 7, "refused nofile promise\n"),
+        ("p", "a", 2, "usage\n"),
+        ("a", "t", 2, "usage\n"),
+        ("t", "t", 2, "usage\n"),
+    ] {
+        assert!(rt;
+            audit_gives(alloc, &mut files, ROOT, promise, auths, status, text)?,
+            "{promise} {auths}"
+        );
+    }
     Ok(())
 }
 
@@ -382,7 +422,8 @@ fn fails_at_the_sink(
 fn each_call_of_an_audit_fails_in_turn(rt: HostRuntime) -> Result<(), Fail> {
     let alloc = rt.alloc();
     let words = audit_words(alloc, "0", "0")?;
-    for call in 1..5u64 {
+    // Size and read of the promise file, the answer and the authenticators
+    for call in 1..7u64 {
         let mut files = row_files(alloc)?;
         files.fail_call(call)?;
         assert!(rt; gives(alloc, words.as_slice(), &mut files, 4, "read fault\n"));
@@ -390,6 +431,85 @@ fn each_call_of_an_audit_fails_in_turn(rt: HostRuntime) -> Result<(), Fail> {
     }
     let mut files = row_files(alloc)?;
     assert!(rt; fails_at_the_sink(alloc, words.as_slice(), &mut files)?);
+    Ok(())
+}
+
+// Whether an audit of the smallest answer, with this promise file, ends so.
+fn audit_of_promise(
+    alloc: Global,
+    promise: &[u8],
+    answer: &[u8],
+    status: u8,
+    text: &str,
+) -> Result<bool, Fail> {
+    let mut files = row_files(alloc)?;
+    files.put("p", promise)?;
+    files.put("a", answer)?;
+    let words = audit_words(alloc, "0", "0")?;
+    Ok(gives(alloc, words.as_slice(), &mut files, status, text))
+}
+
+#[test]
+fn audits_under_the_promises_of_the_network(rt: HostRuntime) -> Result<(), Fail> {
+    let alloc = rt.alloc();
+    let answer = smallest(alloc)?;
+    // With a changed byte of its path the head is not signed.
+    let unsigned = changed(alloc, &answer, 16_591, 0)?;
+    let other = b"network 64501; commit 60;";
+    for (promise, of, status, text) in [
+        (T0.as_slice(), &answer, 0, "clean\n"),
+        (other.as_slice(), &answer, 7, "refused network 64500 64501\n"),
+        (other.as_slice(), &unsigned, 7, "refused network 64500 64501\n"),
+        (T0.as_slice(), &unsigned, 7, "refused head unsigned\n"),
+        (SHORT.as_slice(), &answer, 3, "malformed promise 14\n"),
+    ] {
+        assert!(rt; audit_of_promise(alloc, promise, of, status, text)?, "{text}");
+    }
+    // A promise file's fault goes before the answer's.
+    assert!(rt; audit_of_promise(alloc, SHORT, b"NRA", 3, "malformed promise 14\n")?);
+    assert!(rt; audit_of_promise(alloc, T0, b"NRA", 3, "malformed answer 0\n")?);
+    Ok(())
+}
+
+// Whether `check` of a file of these bytes ends so, and leaves it as it is.
+fn check_gives(alloc: Global, promise: &[u8], status: u8, text: &str) -> Result<bool, Fail> {
+    let mut files = MemFiles::new(alloc);
+    files.put("p", promise)?;
+    let words = words_of(alloc, &["check", "--promise", "p"])?;
+    Ok(gives(alloc, words.as_slice(), &mut files, status, text) && holds(&files, "p", promise))
+}
+
+#[test]
+fn check_prints_the_canonical_text(rt: HostRuntime) -> Result<(), Fail> {
+    let alloc = rt.alloc();
+    for (promise, status, text) in [
+        (T0.as_slice(), 0, "network 64500;\ncommit 60;\n"),
+        (b"commit 60; // seconds\r\nnetwork 64500;".as_slice(), 0, "commit 60;\nnetwork 64500;\n"),
+        // `commit` is missing at the end, `end` stands where `else` is wanted, and q is no neighbour.
+        (SHORT.as_slice(), 3, "malformed promise 14\n"),
+        (WITHOUT_ELSE.as_slice(), 3, "malformed promise 149\n"),
+        (b"network 64500; commit 60; group g = q;".as_slice(), 3, "malformed promise 36\n"),
+        // The second `network` is a fault of the typing alone, and the grammar refuses what stands behind it.
+        (b"network 1; network 2; commit;".as_slice(), 3, "malformed promise 28\n"),
+    ] {
+        assert!(rt; check_gives(alloc, promise, status, text)?, "{text}");
+    }
+    Ok(())
+}
+
+#[test]
+fn each_call_of_check_fails_in_turn(rt: HostRuntime) -> Result<(), Fail> {
+    let alloc = rt.alloc();
+    let words = words_of(alloc, &["check", "--promise", "p"])?;
+    for call in 1..3u64 {
+        let mut files = row_files(alloc)?;
+        files.fail_call(call)?;
+        assert!(rt; gives(alloc, words.as_slice(), &mut files, 4, "read fault\n"));
+    }
+    let mut files = row_files(alloc)?;
+    assert!(rt; fails_at_the_sink(alloc, words.as_slice(), &mut files)?);
+    let mut none = MemFiles::new(alloc);
+    assert!(rt; gives(alloc, words.as_slice(), &mut none, 7, "refused nofile promise\n"));
     Ok(())
 }
 
@@ -541,9 +661,13 @@ impl Sink for OneByte {
     }
 }
 
-// Files that are one byte too long, and can't be read.
+// Files of which one has so many bytes, and can't be read.
 #[derive(Drop)]
-struct TooLong;
+struct TooLong {
+    files: MemFiles,
+    name: &'static str,
+    size: u64,
+}
 
 impl Files for TooLong {
     ghost holds = { λ _. None };
@@ -554,12 +678,18 @@ impl Files for TooLong {
 
     ghost is_pending = { λ _ _. false };
 
-    fn size(&mut self, _name: &str) -> Result<Option<u64>, Failed> {
-        Ok(Some(2_147_483_648))
+    fn size(&mut self, name: &str) -> Result<Option<u64>, Failed> {
+        if name == self.name {
+            return Ok(Some(self.size));
+        }
+        self.files.size(name)
     }
 
-    fn read_at(&mut self, _name: &str, _at: u64, _into: &mut [u8]) -> Result<usize, Failed> {
-        Err(Failed)
+    fn read_at(&mut self, name: &str, at: u64, into: &mut [u8]) -> Result<usize, Failed> {
+        if name == self.name {
+            return Err(Failed);
+        }
+        self.files.read_at(name, at, into)
     }
 
     fn write_at(&mut self, _name: &str, _at: u64, _from: &[u8]) -> Result<(), WriteFault> {
@@ -585,14 +715,22 @@ fn goes_on_where_a_sink_takes_one_byte(rt: HostRuntime) -> Result<(), Fail> {
     let words = audit_words(alloc, "0", "0")?;
     assert_eq!(rt; run(alloc, words.as_slice(), &mut files, &mut out), 0);
     assert_eq!(rt; out.bytes.as_slice(), b"clean\n".as_slice());
-    assert!(rt;
-        gives(
-            alloc,
-            words.as_slice(),
-            &mut TooLong,
-            7,
-            "refused limit answer 2147483648 2147483647\n"
-        )
-    );
+    Ok(())
+}
+
+#[test]
+fn reads_nothing_of_a_file_past_its_limit(rt: HostRuntime) -> Result<(), Fail> {
+    let alloc = rt.alloc();
+    let words = audit_words(alloc, "0", "0")?;
+    for (name, size, status, text) in [
+        ("p", 1_048_576, 4, "read fault\n"),
+        ("p", 1_048_577, 7, "refused limit promise 1048577 1048576\n"),
+        ("a", 2_147_483_648, 7, "refused limit answer 2147483648 2147483647\n"),
+        ("t", 1_073_741_825, 7, "refused limit auths 1073741825 1073741824\n"),
+    ] {
+        let files = row_files(alloc)?;
+        let mut long = TooLong { files, name, size };
+        assert!(rt; gives(alloc, words.as_slice(), &mut long, status, text), "{text}");
+    }
     Ok(())
 }

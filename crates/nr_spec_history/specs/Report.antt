@@ -12,6 +12,8 @@ use Rattle.nr_spec_history.specs.Conflicts.{Period, is_signed, answer_value, con
 pub data Fact : Type 0 where
   -- it doesn't start with entry 1
   Form : Fact
+  -- it is of another AS than the promise file
+  Network : (found : ℕ) (wanted : ℕ) → Fact
   -- its head isn't signed under the audited root
   Unsigned : Fact
   -- its head has another hash than the chain's last value
@@ -23,14 +25,15 @@ pub data Fact : Type 0 where
 abbrev pub holds_or : {A : Type 0} → Bool → Fact → Result A Fact → Result A Fact
 holds_or test fact next = if test then next else Err fact
 
--- the first fact for which the answer is refused, or the conflicts
-unfoldable pub outcome : List ℕ → AnswerFile → Period → List Authenticator → Result (List Authenticator) Fact
-outcome root answer period auths =
+-- the first fact for which the answer is refused, or the conflicts; `network` is the AS of the promise file
+unfoldable pub outcome : List ℕ → ℕ → AnswerFile → Period → List Authenticator → Result (List Authenticator) Fact
+outcome root network answer period auths =
     holds_or (answer.first == 1) Form
+    (holds_or (answer.asn == network) (Network answer.asn network)
     (holds_or (is_signed root answer.head) Unsigned
     (holds_or (bytes_eq answer.head.hash (answer_value answer)) (Head answer.head.hash (answer_value answer))
     (holds_or (not (nat_le answer.head.time period.to)) (Short answer.head.time period.to)
-    (Ok (conflicts_of root answer period auths)))))
+    (Ok (conflicts_of root answer period auths))))))
 
 -- ---- text
 
