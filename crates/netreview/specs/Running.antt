@@ -1,8 +1,8 @@
 -- What a run may answer, what the sink has of it, and what it leaves of the files.
-use Rattle.std.specs.Prelude.{◌≡◌, ℕ, Bool, false, ◌⊎◌, List, [], ◌∷◌, ◌++◌, length, Option, None, Some}
+use Rattle.std.specs.Prelude.{◌≡◌, ◌≢◌, ℕ, ◌≤◌, Bool, false, ◌⊎◌, List, [], ◌∷◌, ◌++◌, length, Option, None, Some}
 use Rattle.nr_ports.specs.Ports.{Contents, ChangesOnly, Torn, TornCut, TornWrite}
 use Rattle.nr_ports.specs.Views.{TookSome}
-use Rattle.netreview.specs.Command.{Ending, Output, read_fault_ending, write_fault_ending, memory_ending}
+use Rattle.netreview.specs.Command.{Ending, Output, Refusal, usage_ending, read_fault_ending, write_fault_ending, memory_ending, refusal_ending}
 
 -- The ending is that of a read fault or of a write fault, where one was counted, or that of want of memory, or, where
 -- the files tell what they hold, the one that is given by what they hold.
@@ -24,6 +24,13 @@ TookFront old new text = (before : List ℕ) → old ≡ Some before → TookSom
 abbrev pub Delivers : Option (List ℕ) → Option (List ℕ) → Type 0 → Ending → ℕ → Type 0
 Delivers old new failed e status =
     ((status ≡ e.status) × TookAll old new e.text) ⊎ ((((status ≡ 5) × failed) ⊎ (status ≡ 6)) × TookFront old new e.text)
+
+-- Whatever the files tell, the text goes with the status: it is the line of a usage, of a fault, of want of memory or of some
+-- refusal, or the command is done.
+abbrev pub IsEnding : Ending → Type 0
+IsEnding e =
+    (e ≡ usage_ending) ⊎ ((e ≡ read_fault_ending) ⊎ ((e ≡ write_fault_ending) ⊎ ((e ≡ memory_ending)
+    ⊎ (((refusal : Refusal) × (e ≡ refusal_ending refusal)) ⊎ (e.status ≤ 1)))))
 
 -- ---- files
 
@@ -47,3 +54,10 @@ MayLeave held (Some output) new = ChangesOnly held output.name (IsLeft output.by
 abbrev pub AreSynced : (List ℕ → Bool) → List (List ℕ) → Type 0
 AreSynced is_pending [] = Unit {0}
 AreSynced is_pending (name ∷ names) = (is_pending name ≡ false) × AreSynced is_pending names
+
+-- What stands when an ending is offered: with status 0 the file that the command writes holds its bytes and is synced, and
+-- with a status but this, that of a write fault and that of want of memory no file has changed.
+pub record StandsBehind (e : Ending) (told : Option Contents) (output : Contents → Option Output) (now : Option Contents) (synced : Type 0) : Type 0 where
+  pub written : e.status ≡ 0 → (held : Contents) → told ≡ Some held → Leaves held (output held) now
+  pub is_synced : e.status ≡ 0 → synced
+  pub same : e.status ≢ 0 → e.status ≢ 5 → e.status ≢ 6 → now ≡ told

@@ -7,7 +7,7 @@ ghost use Rattle.netreview.specs.Words.{request_in, outputs_in};
 ghost use Rattle.netreview.specs.Command.{Ending, answered, output_in, run_of};
 ghost use Rattle.netreview.specs.Requests.{request_of};
 ghost use Rattle.netreview.specs.Endings.{fixed_of};
-ghost use Rattle.netreview.specs.Running.{MayEnd, Delivers, Leaves, MayLeave, AreSynced};
+ghost use Rattle.netreview.specs.Running.{MayEnd, IsEnding, StandsBehind, Delivers, Leaves, MayLeave, AreSynced};
 
 use crate::commands::perform;
 use crate::ending::{Fixed, out_of_memory, read_fault, refused, usage, write_fault};
@@ -49,6 +49,8 @@ fn run_request<F: Files, S: Sink>(
 ) -> u8
     ensures ends { (e : Ending) × MayEnd (F.holds files.old) (Rose (F.read_faults files.old) (F.read_faults files.new)) (Rose (F.write_faults files.old) (F.write_faults files.new))
         (λ held. answered held (Some (request_of request.now))) e
+        × IsEnding e
+        × StandsBehind e (F.holds files.old) (λ held. output_in held (Some (request_of request.now))) (F.holds files.new) (AreSynced (F.is_pending files.new) (outputs_in (Some (request_of request.now))))
         × Delivers (S.taken out.old) (S.taken out.new) (Rose (S.faults out.old) (S.faults out.new)) e result }
     ensures no_usage { result ≢ 2 }
     ensures known { result ≤ 7 }
@@ -58,6 +60,7 @@ fn run_request<F: Files, S: Sink>(
     ensures no_read { result ≢ 4 → result ≢ 5 → result ≢ 6 → F.read_faults files.new ≡ F.read_faults files.old }
     ensures no_write { result ≢ 5 → result ≢ 6 → F.write_faults files.new ≡ F.write_faults files.old }
     ensures no_sink { result ≢ 5 → S.faults out.new ≡ S.faults out.old }
+    ensures one_fault { (F.read_faults files.new ≡ F.read_faults files.old) ⊎ (F.write_faults files.new ≡ F.write_faults files.old) }
     ensures written { result ≡ 0 → (held : Contents) → F.holds files.old ≡ Some held
         → Leaves held (output_in held (Some (request_of request.now))) (F.holds files.new) }
     ensures synced { result ≡ 0 → AreSynced (F.is_pending files.new) (outputs_in (Some (request_of request.now))) }
@@ -83,10 +86,12 @@ fn run_request<F: Files, S: Sink>(
 /// the network promised, and judges none of it yet: it finds conflicts alone.
 pub fn run<F: Files, S: Sink>(alloc: Global, words: &[String], files: &mut F, out: &mut S) -> u8
     // One ending is offered: the one that the words and the files give, where these tell what they hold,
-    // or that of a fault of the files, or that of want of memory. The sink has it whole, unless it failed or found no
-    // memory.
+    // or that of a fault of the files, or that of want of memory. It is offered once the files stand as they are left. The sink
+    // has it whole, unless it failed or found no memory.
     ensures ends { (e : Ending) × MayEnd (F.holds files.old) (Rose (F.read_faults files.old) (F.read_faults files.new)) (Rose (F.write_faults files.old) (F.write_faults files.new))
         (λ held. run_of held (map string_bytes words.now)) e
+        × IsEnding e
+        × StandsBehind e (F.holds files.old) (λ held. output_in held (request_in (map string_bytes words.now))) (F.holds files.new) (AreSynced (F.is_pending files.new) (outputs_in (request_in (map string_bytes words.now))))
         × Delivers (S.taken out.old) (S.taken out.new) (Rose (S.faults out.old) (S.faults out.new)) e result }
 
     // The words alone decide on usage.
@@ -101,7 +106,9 @@ pub fn run<F: Files, S: Sink>(alloc: Global, words: &[String], files: &mut F, ou
     ensures write_fault { result ≡ 5 → Rose (F.write_faults files.old) (F.write_faults files.new) ⊎ Rose (S.faults out.old) (S.faults out.new) }
     ensures sink_fault { outputs_in (request_in (map string_bytes words.now)) ≡ [] → result ≡ 5 → Rose (S.faults out.old) (S.faults out.new) }
 
-    // A fault is never passed over: every other status comes only where no count rose.
+    // The first fault of the files ends the work: never two kinds of it. Every status but those of a fault and of want of memory
+    // comes only where no count rose.
+    ensures one_fault { (F.read_faults files.new ≡ F.read_faults files.old) ⊎ (F.write_faults files.new ≡ F.write_faults files.old) }
     ensures no_read { result ≢ 4 → result ≢ 5 → result ≢ 6 → F.read_faults files.new ≡ F.read_faults files.old }
     ensures no_write { result ≢ 5 → result ≢ 6 → F.write_faults files.new ≡ F.write_faults files.old }
     ensures no_sink { result ≢ 5 → S.faults out.new ≡ S.faults out.old }
@@ -111,7 +118,7 @@ pub fn run<F: Files, S: Sink>(alloc: Global, words: &[String], files: &mut F, ou
         → Leaves held (output_in held (request_in (map string_bytes words.now))) (F.holds files.new) }
     ensures synced { result ≡ 0 → AreSynced (F.is_pending files.new) (outputs_in (request_in (map string_bytes words.now))) }
 
-    // With another status but those of a write fault and of want of memory no file changes. With these the file that the
+    // With any status but 0, 5 and 6 no file changes. With these the file that the
     // command writes holds what writing it may leave, and no other file ever changes.
     ensures same { result ≢ 0 → result ≢ 5 → result ≢ 6 → F.holds files.new ≡ F.holds files.old }
     ensures left { (held : Contents) → F.holds files.old ≡ Some held
