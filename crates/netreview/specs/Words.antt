@@ -82,8 +82,8 @@ audit_in values = do
   to ← number_in to_word
   period ← period_between from to
   if bytes_eq promise answer || (bytes_eq promise auths || bytes_eq answer auths)
-    then None
-    else Some (record { root = root; promise = promise; answer = answer; auths = auths; period = period })
+      then None
+      else Some (record { root = root; promise = promise; answer = answer; auths = auths; period = period })
 
 -- `keygen --as N --height N --seed F --key F`
 abbrev pub keygen_grammar : Grammar

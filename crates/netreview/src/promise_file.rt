@@ -36,11 +36,7 @@ fn promise_from(alloc: Global, text: &[u8]) -> Result<PromiseFile, Stop>
 
 /// What the promise file of this name says.
 #[tactic(auto, unfolding(crate::specs::Command::promise_in))]
-pub fn read_promise<F: Files>(
-    alloc: Global,
-    files: &mut F,
-    name: &str,
-) -> Result<PromiseFile, Stop>
+pub fn read_promise<F: Files>(alloc: Global, files: &mut F, name: &str) -> Result<PromiseFile, Stop>
     ensures value { (held : Contents) → F.holds files.old ≡ Some held → Decides promise_file_of result (promise_in held name.now) }
     ensures same { F.holds files.new ≡ F.holds files.old }
     ensures cause { CountsReads (F.read_faults files.old) (F.read_faults files.new) result }

@@ -118,8 +118,19 @@ fn audit_words(alloc: Global, from: &str, to: &str) -> Result<Vec<String>, Alloc
     words_of(
         alloc,
         &[
-            "audit", "--root", ROOT, "--promise", "p", "--answer", "a", "--auths", "t", "--from",
-            from, "--to", to,
+            "audit",
+            "--root",
+            ROOT,
+            "--promise",
+            "p",
+            "--answer",
+            "a",
+            "--auths",
+            "t",
+            "--from",
+            from,
+            "--to",
+            to,
         ],
     )
 }
@@ -458,12 +469,25 @@ fn audits_under_the_promises_of_the_network(rt: HostRuntime) -> Result<(), Fail>
     let other = b"network 64501; commit 60;";
     for (promise, of, status, text) in [
         (T0.as_slice(), &answer, 0, "clean\n"),
-        (other.as_slice(), &answer, 7, "refused network 64500 64501\n"),
-        (other.as_slice(), &unsigned, 7, "refused network 64500 64501\n"),
+        (
+            other.as_slice(),
+            &answer,
+            7,
+            "refused network 64500 64501\n",
+        ),
+        (
+            other.as_slice(),
+            &unsigned,
+            7,
+            "refused network 64500 64501\n",
+        ),
         (T0.as_slice(), &unsigned, 7, "refused head unsigned\n"),
         (SHORT.as_slice(), &answer, 3, "malformed promise 14\n"),
     ] {
-        assert!(rt; audit_of_promise(alloc, promise, of, status, text)?, "{text}");
+        assert!(rt;
+            audit_of_promise(alloc, promise, of, status, text)?,
+            "{text}"
+        );
     }
     // A promise file's fault goes before the answer's.
     assert!(rt; audit_of_promise(alloc, SHORT, b"NRA", 3, "malformed promise 14\n")?);
@@ -484,13 +508,25 @@ fn check_prints_the_canonical_text(rt: HostRuntime) -> Result<(), Fail> {
     let alloc = rt.alloc();
     for (promise, status, text) in [
         (T0.as_slice(), 0, "network 64500;\ncommit 60;\n"),
-        (b"commit 60; // seconds\r\nnetwork 64500;".as_slice(), 0, "commit 60;\nnetwork 64500;\n"),
+        (
+            b"commit 60; // seconds\r\nnetwork 64500;".as_slice(),
+            0,
+            "commit 60;\nnetwork 64500;\n",
+        ),
         // `commit` is missing at the end, `end` stands where `else` is wanted, and q is no neighbour.
         (SHORT.as_slice(), 3, "malformed promise 14\n"),
         (WITHOUT_ELSE.as_slice(), 3, "malformed promise 149\n"),
-        (b"network 64500; commit 60; group g = q;".as_slice(), 3, "malformed promise 36\n"),
+        (
+            b"network 64500; commit 60; group g = q;".as_slice(),
+            3,
+            "malformed promise 36\n",
+        ),
         // The second `network` is a fault of the typing alone, and the grammar refuses what stands behind it.
-        (b"network 1; network 2; commit;".as_slice(), 3, "malformed promise 28\n"),
+        (
+            b"network 1; network 2; commit;".as_slice(),
+            3,
+            "malformed promise 28\n",
+        ),
     ] {
         assert!(rt; check_gives(alloc, promise, status, text)?, "{text}");
     }
@@ -509,7 +545,15 @@ fn each_call_of_check_fails_in_turn(rt: HostRuntime) -> Result<(), Fail> {
     let mut files = row_files(alloc)?;
     assert!(rt; fails_at_the_sink(alloc, words.as_slice(), &mut files)?);
     let mut none = MemFiles::new(alloc);
-    assert!(rt; gives(alloc, words.as_slice(), &mut none, 7, "refused nofile promise\n"));
+    assert!(rt;
+        gives(
+            alloc,
+            words.as_slice(),
+            &mut none,
+            7,
+            "refused nofile promise\n"
+        )
+    );
     Ok(())
 }
 
@@ -725,12 +769,25 @@ fn reads_nothing_of_a_file_past_its_limit(rt: HostRuntime) -> Result<(), Fail> {
     for (name, size, status, text) in [
         ("p", 1_048_576, 4, "read fault\n"),
         ("p", 1_048_577, 7, "refused limit promise 1048577 1048576\n"),
-        ("a", 2_147_483_648, 7, "refused limit answer 2147483648 2147483647\n"),
-        ("t", 1_073_741_825, 7, "refused limit auths 1073741825 1073741824\n"),
+        (
+            "a",
+            2_147_483_648,
+            7,
+            "refused limit answer 2147483648 2147483647\n",
+        ),
+        (
+            "t",
+            1_073_741_825,
+            7,
+            "refused limit auths 1073741825 1073741824\n",
+        ),
     ] {
         let files = row_files(alloc)?;
         let mut long = TooLong { files, name, size };
-        assert!(rt; gives(alloc, words.as_slice(), &mut long, status, text), "{text}");
+        assert!(rt;
+            gives(alloc, words.as_slice(), &mut long, status, text),
+            "{text}"
+        );
     }
     Ok(())
 }
