@@ -8,7 +8,7 @@ use Rattle.nr_spec_rules.specs.Parsing.{Parser, Outcome, and_then, sees, others,
 use Rattle.nr_laws_rules.specs.Productions as words
 use Rattle.nr_laws_rules.specs.Productions.{StandsFor, token, many, some}
 use Rattle.nr_laws_rules.proofs.KindLaws.{kinds_same, same_kinds, Free, SameFirst, same_behind, sees_alike, AllGo, all_joined}
-use Rattle.nr_laws_rules.proofs.Steps.{IsTaken, Traced, Complete, Decides, taken_here, refused_here, widened, Leads, Follows, Goes, one_goes, bind_goes, gives_goes, not_both, bind_traced, bound, pure_decides, pure_traced, maybe_decides}
+use Rattle.nr_laws_rules.proofs.Steps.{Continues, continued, IsTaken, Traced, Complete, Decides, taken_here, refused_here, widened, Leads, Follows, Goes, one_goes, bind_goes, gives_goes, not_both, bind_traced, bound, pure_decides, pure_traced, maybe_decides}
 
 -- ---- a reading with a bound, of which the number of tokens is enough
 
@@ -25,9 +25,7 @@ pub record IsRefusedWithin {A : Type 0} (p : ℕ → Parser A) (R : StandsFor A)
   pub rest : List Token
   pub split : ts ≡ before ++ rest
   pub alike : (n : ℕ) (y : List Token) → SameFirst rest y → length (before ++ y) ≤ n → p n (before ++ y) ≡ Err (place_of y)
-  pub more : List Token
-  pub value : A
-  pub goes_on : R (before ++ more) value
+  pub goes_on : (at : ℕ) → Continues R before at
 
 abbrev pub TracedWithin : {A : Type 0} → (ℕ → Parser A) → StandsFor A → List Token → Type 0
 TracedWithin p R ts = IsTakenWithin p R ts ⊎ IsRefusedWithin p R ts
@@ -39,8 +37,6 @@ unbounded (inr r) = inr (record {
   rest = r.rest;
   split = r.split;
   alike = λ y s. r.alike (length (r.before ++ y)) y s (omega arith);
-  more = r.more;
-  value = r.value;
   goes_on = r.goes_on;
 })
 
@@ -56,9 +52,7 @@ widened_within {R = R} (inr r) = inr (record {
   rest = r.rest;
   split = r.split;
   alike = r.alike;
-  more = r.more;
-  value = r.value;
-  goes_on = some_many R (r.before ++ r.more) r.value r.goes_on;
+  goes_on = continued (λ list. list) (λ w list is. some_many R (r.before ++ w) list is) r.goes_on;
 })
 
 -- ---- behind a token between
@@ -113,15 +107,13 @@ module _ {A : Type 0} (between : Kind) (item : Parser A) (R : StandsFor A) (ne :
             let step = behind_at u.value u.before (r.before ++ y) m (u.alike (r.before ++ y) front-same) (subst (λ (l : List Token). length (t ∷ l) ≤ m) a long) in
             ap (λ (l : List Token). others between item m (t ∷ l)) a ∙ step.2
             ∙ ap (λ (o : Outcome (List A)). and_then o (λ more. read.pure (u.value ∷ more))) (r.alike step.0 y s step.1);
-        more = r.more;
-        value = u.value ∷ r.value;
-        goes_on = (
+        goes_on = continued (λ list. u.value ∷ list) (λ w list m. (
           t ∷ u.before,
-          r.before ++ r.more,
-          ap (λ (l : List Token). t ∷ l) (append_assoc u.before r.before r.more),
+          r.before ++ w,
+          ap (λ (l : List Token). t ∷ l) (append_assoc u.before r.before w),
           (span_of (t ∷ []), t ∷ [], u.before, refl, (t, refl, is, refl), u.is),
-          r.goes_on,
-        );
+          m,
+        )) r.goes_on;
       })
 
       at_item : Traced item R ts → TracedWithin (others between item) (some Each) (t ∷ ts)
@@ -131,15 +123,13 @@ module _ {A : Type 0} (between : Kind) (item : Parser A) (R : StandsFor A) (ne :
         rest = r.rest;
         split = ap (λ (l : List Token). t ∷ l) r.split;
         alike = λ m y s long. refused_at r.before y m (r.alike y s) long;
-        more = r.more;
-        value = r.value ∷ [];
-        goes_on = (
-          t ∷ (r.before ++ r.more),
+        goes_on = continued (λ a. a ∷ []) (λ w a m. (
+          t ∷ (r.before ++ w),
           [],
-          ap (λ (l : List Token). t ∷ l) (sym (append-nil (r.before ++ r.more))),
-          (span_of (t ∷ []), t ∷ [], r.before ++ r.more, refl, (t, refl, is, refl), r.goes_on),
+          ap (λ (l : List Token). t ∷ l) (sym (append-nil (r.before ++ w))),
+          (span_of (t ∷ []), t ∷ [], r.before ++ w, refl, (t, refl, is, refl), m),
           refl,
-        );
+        )) r.goes_on;
       })
 
   none_traced : (ts : List Token) → sees between ts ≡ false → TracedWithin (others between item) (many Each) ts
@@ -350,9 +340,7 @@ module _ {A : Type 0} (item : Parser A) (R : StandsFor A) (begins : (w : List To
             let front-same = subst (λ (l : List Token). SameFirst l (r.before ++ y)) (sym r.split) (same_behind r.before r.rest y s) in
             let step = behind_at u.value u.before (r.before ++ y) m u.is (u.alike (r.before ++ y) front-same) (subst (λ (l : List Token). length l ≤ m) a long) in
             ap (λ (l : List Token). until k.End item m l) a ∙ step.2 ∙ ap (λ (o : Outcome (List A)). and_then o (λ more. read.pure (u.value ∷ more))) (r.alike step.0 y s step.1);
-        more = r.more;
-        value = u.value ∷ r.value;
-        goes_on = (u.before, r.before ++ r.more, append_assoc u.before r.before r.more, u.is, r.goes_on);
+        goes_on = continued (λ list. u.value ∷ list) (λ w list m. (u.before, r.before ++ w, append_assoc u.before r.before w, u.is, m)) r.goes_on;
       })
 
       at_item : Traced item R ts → TracedWithin (until k.End item) (many R) ts
@@ -362,9 +350,7 @@ module _ {A : Type 0} (item : Parser A) (R : StandsFor A) (begins : (w : List To
         rest = r.rest;
         split = r.split;
         alike = λ m y s long. refused_at (r.before ++ y) y m (still r.before r.rest y r.split s) (r.alike y s) long;
-        more = r.more;
-        value = r.value ∷ [];
-        goes_on = (r.before ++ r.more, [], sym (append-nil (r.before ++ r.more)), r.goes_on, refl);
+        goes_on = continued (λ a. a ∷ []) (λ w a m. (r.before ++ w, [], sym (append-nil (r.before ++ w)), m, refl)) r.goes_on;
       })
 
   pub until_traced : (n : ℕ) (ts : List Token) → length ts ≤ n → TracedWithin (until k.End item) (many R) ts

@@ -14,7 +14,7 @@ use Rattle.nr_laws_rules.specs.Productions as words
 use Rattle.nr_laws_rules.specs.Productions.{StandsFor, token}
 use Rattle.nr_laws_rules.specs.Grammar.{IsNumber, IsPrefix, IsRoot, IsNumbered, IsKey, IsNeighbour, IsGroup, IsPattern, IsDefine, IsPlaces, IsHeading, IsPromise, IsDecl, IsForm, held}
 use Rattle.nr_laws_rules.proofs.KindLaws.{Free}
-use Rattle.nr_laws_rules.proofs.Steps.{Traced, Decides, HasWord, IsChosen, Begins, word_of, widened, refused_at_once, bound, next, mapped, pure_decides, expect_decides, one_leads, bind_leads, leads_begin, leads_follow, or_begins, chosen, ◌else◌, by_kind, maybe_decides, DecidesAt, passed_at, chosen_at}
+use Rattle.nr_laws_rules.proofs.Steps.{Traced, Decides, HasWord, IsChosen, Begins, word_of, widened, widened_word, refused_at_once, bound, next, mapped, pure_decides, expect_decides, one_leads, bind_leads, leads_begin, leads_follow, or_begins, chosen, ◌else◌, by_kind, maybe_decides, DecidesAt, passed_at, chosen_at}
 use Rattle.nr_laws_rules.proofs.Chains.{list_decides}
 use Rattle.nr_laws_rules.proofs.Terms.{name_decides, number_decides, address_decides, prefix_decides, root_decides}
 use Rattle.nr_laws_rules.proofs.Forms.{whole_decides}
@@ -92,7 +92,7 @@ commit_decides = mapped (λ x. decls.Commit x.0 x.1) (numbered_decides k.Commit 
 
 has_declaration : HasWord IsDecl
 unfolding IsDecl
-has_declaration = let w = word_of (network_decides.traced []) in record { word = w.word; value = w.value; is = inl w.is }
+has_declaration = widened_word (λ w a r. inl r) (word_of (network_decides.traced []))
 
 declaration_traced : (kind : Kind) (ts : List Token) → kind_of ts ≡ kind → Traced (read.declaration_by kind) IsDecl ts
 unfolding IsDecl

@@ -1,5 +1,5 @@
 -- Whole files: reading is the grammar, and a refusal stands at the first token that the grammar refuses.
-use Rattle.std.proofs.Common.{◌≡◌, ℕ, true, false, List, [], ◌∷◌, ◌++◌, length, Result, Ok, Err, refl, sym, ap, subst, ◌∙◌, append_assoc, inl, inr, ◌⊎◌, arith}
+use Rattle.std.proofs.Common.{◌≡◌, ℕ, true, false, ◌+◌, List, [], ◌∷◌, ◌++◌, length, Result, Ok, Err, refl, sym, ap, subst, ◌∙◌, append_assoc, inl, inr, ◌⊎◌, arith}
 use Rattle.nr_spec_rules.specs.declared.kind.Kind.TheVariants as k
 use Rattle.nr_spec_rules.specs.declared.span.Span.{Span}
 use Rattle.nr_spec_rules.specs.Tokens.{Token, same_kind, place_of, span_of, tokens_at, tokens_of, goes_on}
@@ -13,8 +13,10 @@ use Rattle.nr_rule_syntax.specs.Reading.{file_of, file_in}
 use Rattle.nr_laws_rules.specs.Productions.{many}
 use Rattle.nr_laws_rules.specs.Grammar.{IsDecl, IsFile}
 use Rattle.nr_laws_rules.specs.Refusal.{IsRefusedAt}
-use Rattle.nr_laws_rules.proofs.KindLaws.{kinds_same, same_kinds, SameFirst, AllGo, all_front}
-use Rattle.nr_laws_rules.proofs.Steps.{Traced, taken_here, refused_here, not_both, sample}
+use Rattle.nr_laws_rules.proofs.KindLaws.{kinds_same, same_kinds, SameFirst, AllGo, all_front, all_behind}
+use Rattle.nr_laws_rules.proofs.Steps.{Traced, taken_here, refused_here, not_both, Continues}
+use Rattle.nr_laws_rules.proofs.Samples.{placed, beyond}
+use Rattle.nr_laws_rules.proofs.Cuts.{end_token, end_is, completed}
 use Rattle.nr_laws_rules.proofs.Chains.{unbounded, many_goes, until_traced, until_taken, until_stops}
 use Rattle.nr_laws_rules.proofs.Spelling.{end_is_length}
 use Rattle.nr_laws_rules.proofs.Declarations.{declaration_decides, declaration_begins}
@@ -95,31 +97,42 @@ again ts file (list, front, back, e, m, (span, f, b, e1, (t, alone, is, place), 
 one_file : (ts : List Token) (a b : File) → IsFile ts a → IsFile ts b → a ≡ b
 one_file ts a b x y = file_is a b (sym (again ts a x) ∙ again ts b y)
 
-refused : (ts : List Token) (place : ℕ) → IsEnded ts → file_in (read.declarations ts) ≡ Err place → (t : Token) × (t.from ≡ place) × IsRefusedAt ts t
-refused ts place ended e = by_trace (declarations_traced ts)
+refused : (text : List ℕ) (place : ℕ) → IsEnded (tokens_of text) → file_in (read.declarations (tokens_of text)) ≡ Err place → (t : Token) × (t.from ≡ place) × IsRefusedAt (tokens_of text) t
+refused text place ended e = by_trace (declarations_traced (tokens_of text))
   where
-    at_rest : (before rest more : List Token) (list : List Decl) → ts ≡ before ++ rest → many IsDecl (before ++ more) list
-        → ((y : List Token) → SameFirst rest y → read.declarations (before ++ y) ≡ Err (place_of y)) → place_of rest ≡ place → (t : Token) × (t.from ≡ place) × IsRefusedAt ts t
-    at_rest before [] more list split m alike at = absurd (never_ended before (all_front before more (declarations_go (before ++ more) list m)) (subst IsEnded split ended))
-    at_rest before (t ∷ tail) more list split m alike at = (
-      t,
-      at,
-      record {
-        before = before;
-        behind = tail;
-        split = split;
-        can_go_on = (
-          more ++ sample k.End [] ∷ [],
-          record { decls = list; end = 0 },
-          subst (λ (l : List Token). IsFile l (record { decls = list; end = 0 })) (append_assoc before more (sample k.End [] ∷ [])) (whole_file (before ++ more) list (sample k.End []) m refl),
-        );
-        cannot_go_on = λ after file f. absurd (cc (sym (again (before ++ t ∷ after) file f) ∙ ap file_in (alike (t ∷ after) refl)));
-      },
-    )
+    goes : (before : List Token) (at : ℕ) (c : Continues (many IsDecl) before at) → AllGo (before ++ placed at c.kinds)
+    goes before at c = declarations_go (before ++ placed at c.kinds) c.value c.is
 
-    by_trace : Traced read.declarations (many IsDecl) ts → (t : Token) × (t.from ≡ place) × IsRefusedAt ts t
+    at_rest : (before rest : List Token) → tokens_of text ≡ before ++ rest → ((at : ℕ) → Continues (many IsDecl) before at)
+        → ((y : List Token) → SameFirst rest y → read.declarations (before ++ y) ≡ Err (place_of y)) → place_of rest ≡ place
+        → (t : Token) × (t.from ≡ place) × IsRefusedAt (tokens_of text) t
+    at_rest before [] split go_on alike at = let c = go_on 0 in absurd (never_ended before (all_front before (placed 0 c.kinds) (goes before 0 c)) (subst IsEnded split ended))
+    at_rest before (t ∷ tail) split go_on alike at =
+        let c = go_on (t.from + 1) in
+        let more = placed (t.from + 1) c.kinds in
+        let last = end_token (beyond (t.from + 1) c.kinds) in
+        let other = completed text before t tail split c.kinds (all_behind before more (goes before (t.from + 1) c)) in
+        let file : File = record { decls = c.value; end = last.from } in (
+          t,
+          at,
+          record {
+            before = before;
+            behind = tail;
+            split = split;
+            can_go_on = (
+              other.0,
+              more ++ last ∷ [],
+              other.1,
+              file,
+              subst (λ (l : List Token). IsFile l file) (append_assoc before more (last ∷ [])) (whole_file (before ++ more) c.value last c.is (end_is (beyond (t.from + 1) c.kinds))),
+            );
+            cannot_go_on = λ after file f. absurd (cc (sym (again (before ++ t ∷ after) file f) ∙ ap file_in (alike (t ∷ after) refl)));
+          },
+        )
+
+    by_trace : Traced read.declarations (many IsDecl) (tokens_of text) → (t : Token) × (t.from ≡ place) × IsRefusedAt (tokens_of text) t
     by_trace (inl t) = absurd (cc (sym (ap file_in (taken_here t)) ∙ e))
-    by_trace (inr r) = at_rest r.before r.rest r.more r.value r.split r.goes_on r.alike (place_is (place_of r.rest) place (sym (ap file_in (refused_here r)) ∙ e))
+    by_trace (inr r) = at_rest r.before r.rest r.split r.goes_on r.alike (place_is (place_of r.rest) place (sym (ap file_in (refused_here r)) ∙ e))
 
 -- ---- one refusal
 
@@ -139,8 +152,8 @@ splits (t ∷ x) (u ∷ y) p q a b e = let same : t ≡ u = cc in let rest : x +
 -- a token within what can be continued isn't refused
 within : (ts : List Token) (a b : Token) (r : IsRefusedAt ts a) (s : IsRefusedAt ts b) (l : List Token) → s.before ≡ r.before ++ a ∷ l → ⊥
 within ts a b r s l e =
-    r.cannot_go_on (l ++ s.can_go_on.0) s.can_go_on.1
-    (subst (λ (w : List Token). IsFile w s.can_go_on.1) (ap (λ (w : List Token). w ++ s.can_go_on.0) e ∙ append_assoc r.before (a ∷ l) s.can_go_on.0) s.can_go_on.2)
+    r.cannot_go_on (l ++ s.can_go_on.1) s.can_go_on.3
+    (subst (λ (w : List Token). IsFile w s.can_go_on.3) (ap (λ (w : List Token). w ++ s.can_go_on.1) e ∙ append_assoc r.before (a ∷ l) s.can_go_on.1) s.can_go_on.4)
 
 one_refused : (ts : List Token) (a b : Token) → IsRefusedAt ts a → IsRefusedAt ts b → a ≡ b
 one_refused ts a b r s = by_case (splits r.before s.before r.behind s.behind a b (sym r.split ∙ s.split))
@@ -169,7 +182,7 @@ file_is_one text a b x y = one_file (tokens_of text) a b x y
 
 pub refusal_is_first : (text : List ℕ) (place : ℕ) → file_of text ≡ Err place → (t : Token) × (t.from ≡ place) × IsRefusedAt (tokens_of text) t
 unfolding file_of
-refusal_is_first text place e = refused (tokens_of text) place (text_ended text) e
+refusal_is_first text place e = refused text place (text_ended text) e
 
 pub first_is_refusal : (text : List ℕ) (t : Token) → IsRefusedAt (tokens_of text) t → file_of text ≡ Err t.from
 first_is_refusal text t r = by_case (file_of text) refl

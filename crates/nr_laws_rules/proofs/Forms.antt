@@ -15,7 +15,7 @@ use Rattle.nr_laws_rules.specs.Productions as words
 use Rattle.nr_laws_rules.specs.Productions.{StandsFor, token}
 use Rattle.nr_laws_rules.specs.Grammar.{Inside, IsName, IsRoute, IsAbout, IsParenthesized, IsOverGroup, IsBound, IsBranches, IsConditional, IsInSet, IsCompared, IsAtom, IsNot, IsAnd, IsOr, IsForm, held}
 use Rattle.nr_laws_rules.proofs.KindLaws.{Free}
-use Rattle.nr_laws_rules.proofs.Steps.{Traced, Complete, Goes, Decides, HasWord, Follows, IsChosen, Leads, Begins, word_of, widened, refused_at_once, bound, next, mapped, bind_goes, one_goes, pure_decides, pure_traced, expect_decides, one_leads, bind_leads, leads_begin, leads_follow, or_begins, bind_begins, chosen, chosen_passed, ◌else◌, by_kind, passed_traced, passed_complete, either_decides, maybe_decides, sample, DecidesAt, passed_at, next_at, mapped_at, chosen_at}
+use Rattle.nr_laws_rules.proofs.Steps.{Traced, Complete, Goes, Decides, HasWord, Follows, IsChosen, Leads, Begins, word_of, word_behind, widened, widened_word, refused_at_once, bound, next, mapped, bind_goes, one_goes, pure_decides, pure_traced, expect_decides, one_leads, bind_leads, leads_begin, leads_follow, or_begins, bind_begins, chosen, chosen_passed, ◌else◌, by_kind, passed_traced, passed_complete, either_decides, maybe_decides, DecidesAt, passed_at, next_at, mapped_at, chosen_at}
 use Rattle.nr_laws_rules.proofs.Chains.{chain_decides}
 use Rattle.nr_laws_rules.proofs.Terms.{name_decides, compared_decides, route_decides, about_decides, in_set_decides, term_begins, route_begins}
 
@@ -37,7 +37,7 @@ closes kind h free = leads_follow kind h free
 
 has_atom : (inside : Inside) → HasWord (IsAtom inside)
 unfolding IsAtom same_kind
-has_atom inside = let w = word_of (passed_traced k.True refl (sample k.True [] ∷ []) refl (pure_traced {a = forms.True})) in record { word = w.word; value = w.value; is = inl w.is }
+has_atom inside = widened_word (λ w a r. inl r) (word_behind k.True (word_of (pure_traced {a = forms.True} [])))
 
 parenthesized_at : (levels : ℕ) → Holds (suc levels) → DecidesAt k.OpenParen (read.parenthesized (suc levels) (read.inside (suc levels))) (IsParenthesized (held (suc levels))) []
 unfolding read.parenthesized IsParenthesized same_kind
@@ -155,7 +155,7 @@ denied levels = parsing.◌>>◌ (read.opens levels) (parsing.◌<$>◌ forms.No
 
 denied_traced : (levels : ℕ) → Opened levels → (ts : List Token) → kind_of ts ≡ k.Not → Traced (denied levels) (words.◌or◌ (Denied levels) (IsAtom (held levels))) ts
 unfolding denied same_kind
-denied_traced zero o ts e = let w = has_atom (held zero) in refused_at_once ts (record { word = w.word; value = w.value; is = inr w.is }) (λ y s. refl)
+denied_traced zero o ts e = refused_at_once ts (widened_word (λ w a r. inr r) (has_atom (held zero))) (λ y s. refl)
 denied_traced (suc levels) o ts e = widened (λ w a r. inl r) (passed_traced k.Not refl ts e (mapped forms.Not o.member).traced)
 
 denied_taken : (levels : ℕ) → Opened levels → Complete (denied levels) (Denied levels) []
@@ -189,7 +189,7 @@ implied levels left = parsing.◌>>◌ (read.opens levels) (parsing.◌<$>◌ (�
 
 implied_traced : (levels : ℕ) → Opened levels → (left : Form) (ts : List Token) → kind_of ts ≡ k.Implies → Traced (implied levels left) (words.◌or◌ (Implied levels left) (words.gives left)) ts
 unfolding implied same_kind
-implied_traced zero o left ts e = refused_at_once ts (record { word = []; value = left; is = inr (refl, refl) }) (λ y s. refl)
+implied_traced zero o left ts e = refused_at_once ts (record { here = λ at. record { kinds = []; value = left; is = inr (refl, refl) } }) (λ y s. refl)
 implied_traced (suc levels) o left ts e = widened (λ w a r. inl r) (passed_traced k.Implies refl ts e (mapped (λ right. forms.Implies left right) o.whole).traced)
 
 implied_taken : (levels : ℕ) → Opened levels → (left : Form) → Complete (implied levels left) (Implied levels left) (k.Implies ∷ k.Or ∷ k.And ∷ [])

@@ -61,3 +61,7 @@ all_joined (t ∷ a) b h g = (h.0, all_joined a b h.1 g)
 pub all_front : (a b : List Token) → AllGo (a ++ b) → AllGo a
 all_front [] b h = tt
 all_front (t ∷ a) b h = (h.0, all_front a b h.1)
+
+pub all_behind : (a b : List Token) → AllGo (a ++ b) → AllGo b
+all_behind [] b h = h
+all_behind (t ∷ a) b h = all_behind a b h.1

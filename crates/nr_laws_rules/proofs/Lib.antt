@@ -1,4 +1,5 @@
 pub mod KindLaws
+pub mod Samples
 pub mod Steps
 pub mod Chains
 pub mod Terms
@@ -6,4 +7,5 @@ pub mod Forms
 pub mod Declarations
 pub mod Pieces
 pub mod Spelling
+pub mod Cuts
 pub mod Files

@@ -69,7 +69,7 @@ text_spelled text = spells (length text) 0 text (omega arith)
 -- ---- longest runs
 
 -- no tokens stand behind a token, or those that spell what is behind
-more_of : (kind : Kind) (text behind : List ℕ) (more : List Token) (others : Type 0) → IsSpelledBehind kind text behind more others → (more ≡ []) ⊎ others
+pub more_of : (kind : Kind) (text behind : List ℕ) (more : List Token) (others : Type 0) → IsSpelledBehind kind text behind more others → (more ≡ []) ⊎ others
 more_of k.End text behind more others s = inl s.2
 more_of k.Fault text behind more others s = inl s.1
 more_of _ text behind more others s = inr s
@@ -78,7 +78,7 @@ more_of _ text behind more others s = inr s
 behind_at : (whole : List ℕ) (at : ℕ) (text front behind : List ℕ) → text ≡ drop at whole → text ≡ front ++ behind → behind ≡ drop (at + length front) whole
 behind_at whole at text front behind e split = sym (drop_at front behind (length front) refl) ∙ ap (λ (l : List ℕ). drop (length front) l) (sym split ∙ e) ∙ drop-drop (length front) at whole
 
-token_longest : (t : Token) (behind : List ℕ) → piece_of (t.text ++ behind) ≡ piece.Token t.kind (length t.text) → IsLongest t.text behind
+pub token_longest : (t : Token) (behind : List ℕ) → piece_of (t.text ++ behind) ≡ piece.Token t.kind (length t.text) → IsLongest t.text behind
 token_longest t behind is =
     let known : IsPiece (piece.Token t.kind (length t.text)) (t.text ++ behind) = subst (λ (p : Piece). IsPiece p (t.text ++ behind)) is (piece_is (t.text ++ behind)) in
     subst (λ (l : List ℕ). IsLongest t.text l) (drop_at t.text behind (length t.text) refl)
@@ -106,7 +106,7 @@ text_longest text = All-from_recursion (IsLongestIn text) (tokens_of text) (long
 
 -- ---- the end of a text
 
-not_none : (front : List Token) (t : Token) (tail : List Token) → front ++ t ∷ tail ≡ [] → ⊥
+pub not_none : (front : List Token) (t : Token) (tail : List Token) → front ++ t ∷ tail ≡ [] → ⊥
 not_none [] t tail e = absurd cc
 not_none (u ∷ front) t tail e = absurd cc
 

@@ -1,7 +1,7 @@
 -- A reading decides a production: it takes a front that stands for the value, or refuses the first token at
 -- which no front could go on; it looks at no token behind the next one; and it takes each front of the production
 -- that doesn't stand before a token with which the front could go on.
-use Rattle.std.proofs.Common.{◌≡◌, ℕ, Bool, true, false, cond, List, [], ◌∷◌, ◌++◌, Option, Some, None, Ok, Err, refl, sym, ap, subst, ◌∙◌, append_assoc, inl, inr, ◌⊎◌}
+use Rattle.std.proofs.Common.{◌≡◌, ℕ, ◌+◌, length, Bool, true, false, cond, List, [], ◌∷◌, ◌++◌, Option, Some, None, Ok, Err, refl, sym, ap, subst, ◌∙◌, append_assoc, inl, inr, ◌⊎◌}
 use Rattle.nr_spec_rules.specs.declared.kind.Kind.{Kind}
 use Rattle.nr_spec_rules.specs.declared.kind.Kind.TheVariants as k
 use Rattle.nr_spec_rules.specs.declared.span.Span.{Span}
@@ -10,6 +10,7 @@ use Rattle.nr_spec_rules.specs.Parsing as read
 use Rattle.nr_spec_rules.specs.Parsing.{Parser, Outcome, and_then, sees, expect, valued, found, refuse}
 use Rattle.nr_laws_rules.specs.Productions as words
 use Rattle.nr_laws_rules.specs.Productions.{StandsFor, one, token}
+use Rattle.nr_laws_rules.proofs.Samples.{spelling, sample, placed, beyond, placed_joined}
 use Rattle.nr_laws_rules.proofs.KindLaws.{kinds_same, same_kinds, Free, SameFirst, by_first, same_behind, kind_alike, sees_alike, AllGo, all_joined}
 
 pub record IsTaken {A : Type 0} (p : Parser A) (R : StandsFor A) (ts : List Token) : Type 0 where
@@ -20,14 +21,23 @@ pub record IsTaken {A : Type 0} (p : Parser A) (R : StandsFor A) (ts : List Toke
   pub is : R before value
   pub alike : (y : List Token) → SameFirst rest y → p (before ++ y) ≡ Ok (value, y)
 
+-- tokens that are written out at a place, with which what stands before it can go on
+pub record Continues {A : Type 0} (R : StandsFor A) (before : List Token) (at : ℕ) : Type 0 where
+  pub kinds : List Kind
+  pub value : A
+  pub is : R (before ++ placed at kinds) value
+
+-- the same of what is made of it
+pub continued : {A B : Type 0} {R : StandsFor A} {S : StandsFor B} {before front : List Token} (f : A → B) → ((w : List Token) (a : A) → R (before ++ w) a → S (front ++ w) (f a))
+    → ((at : ℕ) → Continues R before at) → (at : ℕ) → Continues S front at
+continued f h c at = let d = c at in record { kinds = d.kinds; value = f d.value; is = h (placed at d.kinds) d.value d.is }
+
 pub record IsRefused {A : Type 0} (p : Parser A) (R : StandsFor A) (ts : List Token) : Type 0 where
   pub before : List Token
   pub rest : List Token
   pub split : ts ≡ before ++ rest
   pub alike : (y : List Token) → SameFirst rest y → p (before ++ y) ≡ Err (place_of y)
-  pub more : List Token
-  pub value : A
-  pub goes_on : R (before ++ more) value
+  pub goes_on : (at : ℕ) → Continues R before at
 
 abbrev pub Traced : {A : Type 0} → Parser A → StandsFor A → List Token → Type 0
 Traced p R ts = IsTaken p R ts ⊎ IsRefused p R ts
@@ -78,13 +88,27 @@ refused_here {p = p} r = ap p r.split ∙ r.alike r.rest refl
 -- ---- a production has words
 
 pub record HasWord {A : Type 0} (R : StandsFor A) : Type 0 where
-  pub word : List Token
-  pub value : A
-  pub is : R word value
+  pub here : (at : ℕ) → Continues R [] at
 
-pub word_of : {A : Type 0} {p : Parser A} {R : StandsFor A} {ts : List Token} → Traced p R ts → HasWord R
-word_of (inl t) = record { word = t.before; value = t.value; is = t.is }
-word_of (inr r) = record { word = r.before ++ r.more; value = r.value; is = r.goes_on }
+none_before : (before rest : List Token) → [] ≡ before ++ rest → before ≡ []
+none_before [] rest e = refl
+none_before (t ∷ before) rest e = absurd cc
+
+pub word_of : {A : Type 0} {p : Parser A} {R : StandsFor A} → Traced p R [] → HasWord R
+word_of {R = R} (inl t) = record { here = λ at. record { kinds = []; value = t.value; is = subst (λ (w : List Token). R w t.value) (none_before t.before t.rest t.split) t.is } }
+word_of {R = R} (inr r) = record {
+  here = λ at.
+      let c = r.goes_on at in
+      record { kinds = c.kinds; value = c.value; is = subst (λ (w : List Token). R (w ++ placed at c.kinds) c.value) (none_before r.before r.rest r.split) c.is };
+}
+
+pub word_behind : {A : Type 0} {S : StandsFor A} (kind : Kind) → HasWord S → HasWord (words.◌>>◌ (token kind) S)
+word_behind kind w = record {
+  here = λ at.
+      let t = sample at kind in
+      let c = w.here (at + 1 + length (spelling kind)) in
+      record { kinds = kind ∷ c.kinds; value = c.value; is = (span_of (t ∷ []), t ∷ [], placed (at + 1 + length (spelling kind)) c.kinds, refl, (t, refl, refl, refl), c.is) };
+}
 
 -- ---- a wider production
 
@@ -98,29 +122,31 @@ widened h (inr r) = inr (record {
   rest = r.rest;
   split = r.split;
   alike = r.alike;
-  more = r.more;
-  value = r.value;
-  goes_on = h (r.before ++ r.more) r.value r.goes_on;
+  goes_on = continued (λ a. a) (λ w a is. h (r.before ++ w) a is) r.goes_on;
 })
+
+pub widened_word : {A : Type 0} {R S : StandsFor A} → IsWider R S → HasWord R → HasWord S
+widened_word h w = record { here = continued (λ a. a) (λ v a is. h v a is) w.here }
 
 -- what refuses whatever comes
 pub refused_at_once : {A : Type 0} {p : Parser A} {R : StandsFor A} (ts : List Token) → HasWord R → ((y : List Token) → SameFirst ts y → p y ≡ Err (place_of y)) → Traced p R ts
-refused_at_once ts w h = inr (record { before = []; rest = ts; split = refl; alike = h; more = w.word; value = w.value; goes_on = w.is })
+refused_at_once ts w h = inr (record { before = []; rest = ts; split = refl; alike = h; goes_on = w.here })
 
 -- ---- one after another
 
 pub bind_traced : {A B : Type 0} {p : Parser A} {q : A → Parser B} {R : StandsFor A} {S : A → StandsFor B} {ts : List Token}
     → Traced p R ts → ((a : A) (rest : List Token) → Traced (q a) (S a) rest) → Traced (λ us. and_then (p us) q) (words.◌>>=◌ R S) ts
 bind_traced {A} {B} {p} {q} {R} {S} {ts} (inr r) h =
-    let w = word_of (h r.value []) in
     inr (record {
       before = r.before;
       rest = r.rest;
       split = r.split;
       alike = λ y s. ap (λ (o : Outcome A). and_then o q) (r.alike y s);
-      more = r.more ++ w.word;
-      value = w.value;
-      goes_on = (r.value, r.before ++ r.more, w.word, sym (append_assoc r.before r.more w.word), r.goes_on, w.is);
+      goes_on = λ at.
+          let c = r.goes_on at in
+          let w = (word_of (h c.value [])).here (beyond at c.kinds) in
+          let joined = ap (λ (l : List Token). r.before ++ l) (placed_joined at c.kinds w.kinds) ∙ sym (append_assoc r.before (placed at c.kinds) (placed (beyond at c.kinds) w.kinds)) in
+          record { kinds = c.kinds ++ w.kinds; value = w.value; is = (c.value, r.before ++ placed at c.kinds, placed (beyond at c.kinds) w.kinds, joined, c.is, w.is) };
     })
 bind_traced {A} {B} {p} {q} {R} {S} {ts} (inl t) h = then_of (h t.value t.rest)
   where
@@ -146,9 +172,7 @@ bind_traced {A} {B} {p} {q} {R} {S} {ts} (inl t) h = then_of (h t.value t.rest)
       rest = r.rest;
       split = whole r.before r.rest r.split;
       alike = λ y s. met r.before r.rest y r.split s ∙ r.alike y s;
-      more = r.more;
-      value = r.value;
-      goes_on = (t.value, t.before, r.before ++ r.more, append_assoc t.before r.before r.more, t.is, r.goes_on);
+      goes_on = continued (λ b. b) (λ w b is. (t.value, t.before, r.before ++ w, append_assoc t.before r.before w, t.is, is)) r.goes_on;
     })
 
 -- what follows the first part is none of the kinds with which that could go on
@@ -200,9 +224,6 @@ mapped {stops = stops} f h = bound h (λ a. pure_decides) (λ a. record { free =
 
 -- ---- single tokens
 
-abbrev pub sample : Kind → List ℕ → Token
-sample kind text = record { kind = kind; from = 0; text = text }
-
 pub not_both : {b : Bool} → b ≡ true → b ≡ false → ⊥
 not_both e f = absurd (cc (sym e ∙ f))
 
@@ -211,7 +232,7 @@ unfolding expect
 expect_decides kind ne go = record { traced = traced; complete = record { takes = λ w span after is free. takes w span after is }; goes = one_goes go }
   where
     refused : (ts : List Token) → sees kind ts ≡ false → Traced (expect kind) (token kind) ts
-    refused ts e = refused_at_once ts (record { word = sample kind [] ∷ []; value = span_of (sample kind [] ∷ []); is = (sample kind [], refl, refl, refl) })
+    refused ts e = refused_at_once ts (record { here = λ at. let t = sample at kind in record { kinds = kind ∷ []; value = span_of (t ∷ []); is = (t, refl, refl, refl) } })
         (λ y s. let f : sees kind y ≡ false = sym (sees_alike kind ts y s) ∙ e in rw f refl)
 
     at_token : (t : Token) (ts : List Token) (b : Bool) → same_kind t.kind kind ≡ b → Traced (expect kind) (token kind) (t ∷ ts)
@@ -226,20 +247,17 @@ expect_decides kind ne go = record { traced = traced; complete = record { takes 
     takes w span after (t, alone, is, place) =
         let e : same_kind t.kind kind ≡ true = same_kinds t.kind kind is in rw (alone, place, e) refl
 
--- a text with a value, and its value
-pub record HasValue {A : Type 0} (value : List ℕ → Option A) : Type 0 where
-  pub text : List ℕ
+-- what the spelling of a kind is worth
+pub record HasValue {A : Type 0} (kind : Kind) (value : List ℕ → Option A) : Type 0 where
   pub is : A
-  pub fine : value text ≡ Some is
+  pub fine : value (spelling kind) ≡ Some is
 
-pub valued_decides : {A : Type 0} (kind : Kind) (value : List ℕ → Option A) → same_kind k.End kind ≡ false → goes_on kind ≡ true → HasValue value → Decides (valued kind value) (words.valued kind value) []
+pub valued_decides : {A : Type 0} (kind : Kind) (value : List ℕ → Option A) → same_kind k.End kind ≡ false → goes_on kind ≡ true → HasValue kind value → Decides (valued kind value) (words.valued kind value) []
 unfolding valued
 valued_decides {A} kind value ne go some = record { traced = traced; complete = record { takes = λ w x after is free. takes w x after is }; goes = one_goes go }
   where
     has : HasWord (words.valued kind value)
-    has =
-        let t = sample kind some.text in
-        record { word = t ∷ []; value = (some.is, span_of (t ∷ [])); is = (t, refl, refl, (some.fine, refl)) }
+    has = record { here = λ at. let t = sample at kind in record { kinds = kind ∷ []; value = (some.is, span_of (t ∷ [])); is = (t, refl, refl, (some.fine, refl)) } }
 
     refused : (ts : List Token) → sees kind ts ≡ false → Traced (valued kind value) (words.valued kind value) ts
     refused ts e = refused_at_once ts has (λ y s. let f : sees kind y ≡ false = sym (sees_alike kind ts y s) ∙ e in rw f refl)
@@ -313,8 +331,6 @@ kind_traced {A} P {R} ts t = by_case t
       rest = r.rest;
       split = r.split;
       alike = λ y s. ap (λ (kind : Kind). P kind (r.before ++ y)) (same r.before r.rest y r.split s) ∙ r.alike y s;
-      more = r.more;
-      value = r.value;
       goes_on = r.goes_on;
     })
 
@@ -382,9 +398,7 @@ passed_traced {A} {q} {S} kind ne (t ∷ ts) e h = behind_it (h ts)
       rest = r.rest;
       split = ap (λ (l : List Token). t ∷ l) r.split;
       alike = r.alike;
-      more = r.more;
-      value = r.value;
-      goes_on = (span_of (t ∷ []), t ∷ [], r.before ++ r.more, refl, (t, refl, e, refl), r.goes_on);
+      goes_on = continued (λ a. a) (λ w a is. (span_of (t ∷ []), t ∷ [], r.before ++ w, refl, (t, refl, e, refl), is)) r.goes_on;
     })
 
 pub passed_complete : {A : Type 0} {q : Parser A} {S : StandsFor A} {stops : List Kind} (kind : Kind) → Complete q S stops

@@ -13,34 +13,34 @@ use Rattle.nr_rule_syntax.specs.declared.tree.Cmp.TheVariants as cmps
 use Rattle.nr_rule_syntax.specs.declared.tree.Side.TheVariants as sides
 use Rattle.nr_rule_syntax.specs.Reading as read
 use Rattle.nr_laws_rules.specs.Grammar.{IsName, IsNumber, IsAddress, IsCommunity, IsPrefix, IsRoot, IsArgument, IsTerm, IsCmp, IsCompared, IsRoute, IsAbout, IsInSet}
-use Rattle.nr_laws_rules.proofs.Steps.{Traced, Decides, HasWord, IsChosen, Begins, word_of, widened, refused_at_once, next, mapped, pure_decides, pure_traced, expect_decides, valued_decides, one_leads, bind_leads, leads_begin, or_begins, chosen, chosen_passed, ◌else◌, by_kind, passed_traced, sample}
+use Rattle.nr_laws_rules.proofs.Steps.{Traced, Decides, HasWord, IsChosen, Begins, word_of, word_behind, widened, widened_word, refused_at_once, next, mapped, pure_decides, pure_traced, expect_decides, valued_decides, one_leads, bind_leads, leads_begin, or_begins, chosen, chosen_passed, ◌else◌, by_kind, passed_traced}
 
 -- ---- tokens with a value
 
 pub name_decides : Decides read.name IsName []
 unfolding read.name IsName same_kind
-name_decides = mapped (λ x. record { word = x.0; span = x.1 }) (valued_decides k.Name (λ text. Some text) refl refl (record { text = []; is = []; fine = refl }))
+name_decides = mapped (λ x. record { word = x.0; span = x.1 }) (valued_decides k.Name (λ text. Some text) refl refl (record { is = 97 ∷ []; fine = refl }))
 
 pub number_decides : Decides read.number IsNumber []
 unfolding read.number IsNumber same_kind number_of number_to
-number_decides = mapped (λ x. record { value = x.0; span = x.1 }) (valued_decides k.Number number_of refl refl (record { text = 48 ∷ []; is = 0; fine = refl }))
+number_decides = mapped (λ x. record { value = x.0; span = x.1 }) (valued_decides k.Number number_of refl refl (record { is = 0; fine = refl }))
 
 pub address_decides : Decides read.address IsAddress []
 unfolding read.address IsAddress same_kind address_of number_to cut
 address_decides = mapped (λ x. record { value = x.0; span = x.1 })
-    (valued_decides k.Address address_of refl refl (record { text = 48 ∷ 46 ∷ 48 ∷ 46 ∷ 48 ∷ 46 ∷ 48 ∷ []; is = 0; fine = refl }))
+    (valued_decides k.Address address_of refl refl (record { is = 0; fine = refl }))
 
 pub community_decides : Decides read.community IsCommunity []
 unfolding read.community IsCommunity same_kind community_of number_to cut
-community_decides = mapped (λ x. x.0) (valued_decides k.Community community_of refl refl (record { text = 48 ∷ 58 ∷ 48 ∷ []; is = 0; fine = refl }))
+community_decides = mapped (λ x. x.0) (valued_decides k.Community community_of refl refl (record { is = 0; fine = refl }))
 
 pub prefix_decides : Decides read.prefix IsPrefix []
 unfolding read.prefix IsPrefix same_kind prefix_of address_of number_to cut
-prefix_decides = mapped _ (valued_decides k.Prefix prefix_of refl refl (record { text = 48 ∷ 46 ∷ 48 ∷ 46 ∷ 48 ∷ 46 ∷ 48 ∷ 47 ∷ 48 ∷ []; is = (0, 0); fine = refl }))
+prefix_decides = mapped _ (valued_decides k.Prefix prefix_of refl refl (record { is = (0, 0); fine = refl }))
 
 pub root_decides : Decides read.root IsRoot []
 unfolding read.root IsRoot same_kind decode_pairs
-root_decides = mapped _ (valued_decides k.Root root_of refl refl (record { text = 35 ∷ replicate 64 48; is = replicate 32 0; fine = refl }))
+root_decides = mapped _ (valued_decides k.Root root_of refl refl (record { is = replicate 32 0; fine = refl }))
 
 pub argument_decides : Decides read.argument IsArgument []
 unfolding read.argument IsArgument same_kind
@@ -50,7 +50,7 @@ argument_decides = next (expect_decides k.OpenParen refl refl) (λ opened. next 
 
 has_term : HasWord IsTerm
 unfolding IsTerm
-has_term = let w = word_of ((mapped terms.Number number_decides).traced []) in record { word = w.word; value = w.value; is = inl w.is }
+has_term = widened_word (λ w a r. inl r) (word_of ((mapped terms.Number number_decides).traced []))
 
 term_traced : (kind : Kind) (ts : List Token) → kind_of ts ≡ kind → Traced (read.term_by kind) IsTerm ts
 unfolding IsTerm same_kind
@@ -108,7 +108,7 @@ term_begins number address bits length med pref origin first last hop asn =
 
 has_comparison : HasWord IsCmp
 unfolding IsCmp same_kind
-has_comparison = let w = word_of (passed_traced k.Equal refl (sample k.Equal [] ∷ []) refl (pure_traced {a = cmps.Eq})) in record { word = w.word; value = w.value; is = inl w.is }
+has_comparison = widened_word (λ w a r. inl r) (word_behind k.Equal (word_of (pure_traced {a = cmps.Eq} [])))
 
 comparison_traced : (kind : Kind) (ts : List Token) → kind_of ts ≡ kind → Traced (read.comparison_by kind) IsCmp ts
 unfolding IsCmp same_kind
@@ -142,9 +142,7 @@ compared_decides = next term_decides (λ left. next comparison_decides (λ op. n
 
 has_route : HasWord IsRoute
 unfolding IsRoute same_kind
-has_route =
-    let w = word_of (passed_traced k.Sent refl (sample k.Sent [] ∷ []) refl (mapped (λ (of : Name). (sides.Sent, of)) argument_decides).traced) in
-    record { word = w.word; value = w.value; is = inl w.is }
+has_route = widened_word (λ w a r. inl r) (word_behind k.Sent (word_of ((mapped (λ (of : Name). (sides.Sent, of)) argument_decides).traced [])))
 
 route_traced : (kind : Kind) (ts : List Token) → kind_of ts ≡ kind → Traced (read.route_by kind) IsRoute ts
 unfolding IsRoute same_kind
@@ -166,9 +164,7 @@ route_begins sent received = or_begins (leads_begin k.Sent (one_leads k.Sent) se
 
 has_about : (var : Name) → HasWord (IsAbout var)
 unfolding IsAbout same_kind
-has_about var =
-    let w = word_of (passed_traced k.Has refl (sample k.Has [] ∷ []) refl (mapped (λ (c : ℕ). forms.Has var c) community_decides).traced) in
-    record { word = w.word; value = w.value; is = inl w.is }
+has_about var = widened_word (λ w a r. inl r) (word_behind k.Has (word_of ((mapped (λ (c : ℕ). forms.Has var c) community_decides).traced [])))
 
 about_traced : (var : Name) (kind : Kind) (ts : List Token) → kind_of ts ≡ kind → Traced (read.about_by var kind) (IsAbout var) ts
 unfolding IsAbout same_kind

@@ -18,13 +18,14 @@ Ends test (b ∷ behind) = test b ≡ false
 abbrev pub IsRun : (ℕ → Bool) → List ℕ → List ℕ → Type 0
 IsRun test bytes behind = (list_all test bytes ≡ true) × Ends test behind
 
--- A word is a longest run of letters, digits and `_`, and a figure one of digits, `.`, `:` and `/`.
+-- What begins with a letter is a longest run of letters, digits and `_`, and what begins with a digit one of digits,
+-- `.`, `:` and `/`.
 abbrev pub IsLongest : List ℕ → List ℕ → Type 0
 IsLongest [] behind = Unit {0}
 IsLongest (b ∷ bytes) behind =
     (is_ascii_alphabetic b ≡ true → IsRun in_word (b ∷ bytes) behind) × (is_ascii_digit b ≡ true → IsRun in_figure (b ∷ bytes) behind)
 
--- the same of a token, in its text
+-- the same of a token, in the text where it stands
 abbrev pub IsLongestIn : List ℕ → Token → Type 0
 IsLongestIn text t = IsLongest t.text (drop (t.from + length t.text) text)
 
@@ -45,15 +46,15 @@ AreGaps (part ∷ parts) behind = (IsBlank part ⊎ IsComment part (concat parts
 
 -- ---- tokens
 
--- What stands behind a token of this kind and text: nothing behind the end, no token behind a fault, else the
--- other tokens.
+-- What stands behind a token of this kind: nothing behind the end, no token behind a fault, else the other tokens.
+-- The end and a fault have no bytes.
 abbrev pub IsSpelledBehind : Kind → List ℕ → List ℕ → List Token → Type 0 → Type 0
 IsSpelledBehind k.End text behind more others = (text ≡ []) × (behind ≡ []) × (more ≡ [])
 IsSpelledBehind k.Fault text behind more others = (text ≡ []) × (more ≡ [])
 IsSpelledBehind _ text behind more others = others
 
--- The next token of a text that stands at this place, behind blanks and comments: it is what stands in front of
--- the rest, a fault where that begins no token.
+-- The next token of a text that stands at this place, behind blanks and comments. It is the piece in front of what
+-- is left, a fault where that begins no token.
 pub record IsNext (at : ℕ) (text : List ℕ) (t : Token) (Rest : List ℕ → Type 0) : Type 0 where
   pub gaps : List (List ℕ)
   pub behind : List ℕ
