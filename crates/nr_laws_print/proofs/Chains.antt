@@ -6,10 +6,6 @@ use Rattle.nr_spec_rules.specs.Parsing.{Outcome, Parser, others, behind, followi
 use Rattle.nr_laws_print.proofs.Words.{Shown, Words, each_behind, joined}
 use Rattle.nr_laws_print.proofs.Gives.{laid, Gives, gives_then, gives_pure, gives_map, gives_seen, gives_unseen, gives_behind, IsApart}
 
--- words that stand in front of others
-pub record Grows (w : Words) : Type 0 where
-  pub grows : (rest : List Shown) → length rest ≤ length (w rest)
-
 -- an item: its words, and what it is but for places
 pub record Item (B : Type 0) : Type 0 where
   pub words : Words

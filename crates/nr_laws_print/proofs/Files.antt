@@ -13,9 +13,6 @@ use Rattle.nr_laws_print.proofs.Words.{Shown, word, declaration_words, all_words
 use Rattle.nr_laws_print.proofs.Gives.{Gives, IsApart, laid, gives_then, gives_pure, gives_seen, gives_unseen}
 use Rattle.nr_laws_print.proofs.Declarations.{gives_declaration, grows_declaration}
 
-end_word : Shown
-end_word = word k.End []
-
 apart_end : (d : Decl) (rest : List Shown) → IsApart k.End (declaration_words d rest)
 unfolding same_kind
 apart_end (decls.Network value span) rest = record { apart = refl }

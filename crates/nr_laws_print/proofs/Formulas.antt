@@ -284,9 +284,6 @@ same_values : (least : ℕ) (xs : List Held) → values_of (map (item least) xs)
 same_values least [] = refl
 same_values least (x ∷ xs) = ap (λ (fs : List Form). bare_form x.0 ∷ fs) (same_values least xs)
 
-members_of : (xs : List Held) → Type 0
-members_of xs = list_all (λ (m : Bool). m) (map is_written (map (λ e. e.0) xs)) ≡ true
-
 -- each member is read where one stands
 not_items : (n : ℕ) (xs : List Held) → list_all (λ (m : Bool). m) (map is_written (map (λ e. e.0) xs)) ≡ true → most_within 3 (map measured (map (λ e. e.0) xs)) ≤ n
     → AllByRecursion (IsItem bare_form (negation n (inside n)) (λ _. Unit {0})) (map (item 3) xs)
