@@ -49,5 +49,5 @@ not_all neighbours scene var group form things =
     at_roll neighbours scene things (Typing-F.Not (typings.All var group form)) (typings.Not (typings.All var group form)) (rolls-Not (typings.All var group form))
     ∙ ap not (at_roll neighbours scene things (Typing-F.All var group form) (typings.All var group form) (rolls-All var group form))
     ∙ not_each (holds_where neighbours scene form) (holds_where neighbours scene (typings.Not form)) things
-      (λ xs. at_roll neighbours scene xs (Typing-F.Not form) (typings.Not form) (rolls-Not form)) group
+    (λ xs. at_roll neighbours scene xs (Typing-F.Not form) (typings.Not form) (rolls-Not form)) group
     ∙ sym (at_roll neighbours scene things (Typing-F.Some var group (typings.Not form)) (typings.Some var group (typings.Not form)) (rolls-Some var group (typings.Not form)))
