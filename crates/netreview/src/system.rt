@@ -1,5 +1,5 @@
-//! The system's files and standard output. They tell neither their content nor what a crash would leave: their
-//! contracts are about faults alone.
+//! The system's files and standard output. Their contracts are about faults alone: of their content and of crashes
+//! they tell nothing.
 
 ghost use Rattle.std.specs.Prelude.{◌≡◌, ◌≤◌, false, length, IfOk, None};
 
@@ -167,6 +167,7 @@ impl<'a, R: Disk> Files for SystemFiles<'a, R> {
 
     ghost write_faults = { λ s. s.write_faults };
 
+    // Nothing is told of crashes: that a caller syncs follows from what it is for all files.
     ghost is_pending = { λ _ _. false };
 
     fn size(&mut self, name: &str) -> Result<Option<u64>, Failed> {

@@ -18,8 +18,9 @@ pub trait Files {
     /// How often a call that writes has failed, up to the greatest `u64`.
     ghost write_faults: { Self → ℕ };
 
-    /// Whether a crash may leave under a name something else than a read gives: a call has written there, and
-    /// no sync of the name has answered Ok since.
+    /// Whether a crash may leave under a name something else than a read gives. Behind a call that writes
+    /// nothing is said of it for that name, and a sync that answers Ok makes it false. So a caller that is
+    /// proved for all files has to sync what it calls synced.
     ghost is_pending: { Self → List ℕ → Bool };
 
     /// How many bytes a file has. `None` exactly where the name is absent.
