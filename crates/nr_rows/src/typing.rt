@@ -14,7 +14,12 @@ const BASE: &[u8] =
     b"network 64500; commit 60;\nneighbour p as 64501 at 192.0.2.1;\nneighbour q as 64502 at 192.0.2.2;\ngroup peers = p, q;\ndefine own = 198.51.100.0/24 le 26;\n";
 
 // A whole text, and the place of its first fault.
-const FAULTS: [(&[u8], u64); 24] = [
+const FAULTS: [(&[u8], u64); 25] = [
+    // the example of docs/promises.md
+    (
+        b"network 64500;\ncommit 60;\nneighbour transit as 64510 at 192.0.2.10;\ndefine own = 203.0.113.0/24 le 26;\n\n// The transit hears of our own prefixes alone.\npromise only_own grace 10 { sent(transit_a) implies prefix in own }\n",
+        185,
+    ),
     // a second network
     (b"network 64500; commit 60; network 64500;", 26),
     // a second commit
