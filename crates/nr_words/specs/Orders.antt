@@ -15,19 +15,19 @@ orders (x ∷ xs) = flat_map (placed x) (orders xs)
 abbrev required : List ℕ → OptionRule
 required name = record { name = name; required = true }
 
-abbrev pub audit : Grammar
-audit = record {
-  command = codes "audit";
-  options = required (codes "answer") ∷ required (codes "auths") ∷ required (codes "from") ∷ required (codes "to") ∷ [];
+abbrev pub keygen : Grammar
+keygen = record {
+  command = codes "keygen";
+  options = required (codes "as") ∷ required (codes "height") ∷ required (codes "seed") ∷ required (codes "key") ∷ [];
   files = false;
 }
 
-abbrev pub audit_values : Values
-audit_values = record { options = Some (codes "a") ∷ Some (codes "b") ∷ Some (codes "0") ∷ Some (codes "1") ∷ []; files = [] }
+abbrev pub keygen_values : Values
+keygen_values = record { options = Some (codes "1") ∷ Some (codes "2") ∷ Some (codes "s") ∷ Some (codes "k") ∷ []; files = [] }
 
 -- each option with its value
-abbrev pub audit_options : List (List ℕ × List ℕ)
-audit_options = (codes "--answer", codes "a") ∷ (codes "--auths", codes "b") ∷ (codes "--from", codes "0") ∷ (codes "--to", codes "1") ∷ []
+abbrev pub keygen_options : List (List ℕ × List ℕ)
+keygen_options = (codes "--as", codes "1") ∷ (codes "--height", codes "2") ∷ (codes "--seed", codes "s") ∷ (codes "--key", codes "k") ∷ []
 
-abbrev pub audit_words : List (List ℕ × List ℕ) → List (List ℕ)
-audit_words options = codes "audit" ∷ flat_map (λ o. o.0 ∷ o.1 ∷ []) options
+abbrev pub keygen_words : List (List ℕ × List ℕ) → List (List ℕ)
+keygen_words options = codes "keygen" ∷ flat_map (λ o. o.0 ∷ o.1 ∷ []) options

@@ -2,7 +2,7 @@
 
 ghost use Rattle.std.specs.Prelude.{◌≡◌, map, replicate, None, Some};
 ghost use Rattle.nr_words.specs.Grammar.{values_in};
-ghost use Rattle.nr_words.specs.Orders.{audit, audit_options, audit_values, audit_words, orders};
+ghost use Rattle.nr_words.specs.Orders.{keygen, keygen_options, keygen_values, keygen_words, orders};
 ghost use Rattle.nr_words.specs.Samples.{in_another_order, in_order, sample, sample_values, with_help, with_signs, with_two_keys, without_key, without_value};
 
 /// The options stand in any order, and files on both sides of one. A value may stand behind `=`, and files
@@ -23,5 +23,5 @@ pub fn words_that_are_not_taken()
 
 /// Four options with their values mean the same in each of their 24 orders.
 pub fn options_in_each_order()
-    ensures { map (λ options. values_in audit (audit_words options)) (orders audit_options) ≡ replicate 24 (Some audit_values) }
+    ensures { map (λ options. values_in keygen (keygen_words options)) (orders keygen_options) ≡ replicate 24 (Some keygen_values) }
 {}
