@@ -1,6 +1,6 @@
 -- A file that is there and within its limit is present, and cutting what was read of it to its size leaves it whole.
-use Rattle.std.proofs.Common.{◌≡◌, ℕ, ◌≤◌, length, List, [], Option, Some, None, Ok, refl, sym, ap, ◌∙◌, arith}
-use Rattle.std.specs.Prelude.{option_map, nat_le, take}
+use Rattle.std.proofs.Common.{◌≡◌, ℕ, ◌≤◌, length, List, Option, Some, None, Ok, sym, ap, ◌∙◌, arith}
+use Rattle.std.specs.Prelude.{option_map, take}
 use Rattle.std.proofs.lemmas.Bool.{le-leb}
 use Rattle.std.proofs.lemmas.List.{take_all}
 use Rattle.nr_ports.specs.Ports.{bytes_of}

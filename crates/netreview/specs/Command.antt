@@ -10,7 +10,7 @@ use Rattle.nr_rule_syntax.specs.Printing.{file_text}
 use Rattle.nr_spec_history.specs.Report.{Fact, Form, Network, Unsigned, Head, Short, outcome, line, report_text}
 use Rattle.nr_ports.specs.Ports.{Contents}
 use Rattle.netreview.specs.Promises.{PromiseFile, promise_of}
-use Rattle.netreview.specs.Words.{AuditRequest, KeygenRequest, CheckRequest, Request, Audit, Keygen, Check, request_in}
+use Rattle.netreview.specs.Words.{AuditRequest, KeygenRequest, Request, Audit, Keygen, Check, request_in}
 
 -- ---- input files
 

@@ -1,12 +1,10 @@
 //! The command `audit`: an answer against the authenticators that were handed in.
 
 ghost use Rattle.std.specs.Prelude.{◌≡◌, ◌≢◌, ◌≤◌, Some, IfOk};
-ghost use Rattle.std.specs.List.{flat_map};
 ghost use Rattle.std.specs.String.{string_bytes};
-ghost use Rattle.nr_spec_log.specs.Authenticator.{Authenticator};
-ghost use Rattle.nr_spec_history.specs.Report.{conflict_line, outcome};
+ghost use Rattle.nr_spec_history.specs.Report.{outcome};
 ghost use Rattle.nr_ports.specs.Ports.{Contents};
-ghost use Rattle.netreview.specs.Command.{audit_of, concluded, judged, report_ending};
+ghost use Rattle.netreview.specs.Command.{audit_of, concluded, judged};
 ghost use Rattle.netreview.specs.Views.{Decides, CountsReads};
 ghost use Rattle.netreview.specs.Requests.{audit_request_of, period_of};
 ghost use Rattle.netreview.specs.Endings.{ending_of, Reports};

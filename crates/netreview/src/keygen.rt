@@ -5,7 +5,7 @@ ghost use Rattle.std.specs.String.{string_bytes};
 ghost use Rattle.hex.specs.Hex.{encode_lower};
 ghost use Rattle.nr_spec_history.specs.KeyFiles.{key_file, key_root};
 ghost use Rattle.nr_spec_history.specs.Report.{line};
-ghost use Rattle.nr_ports.specs.Ports.{Contents, ChangesOnly};
+ghost use Rattle.nr_ports.specs.Ports.{Contents};
 ghost use Rattle.netreview.specs.Command.{keygen_of, made, key_ending, key_output};
 ghost use Rattle.netreview.specs.Running.{Leaves, MayLeave};
 ghost use Rattle.netreview.specs.Views.{Decides, CountsReads, CountsWrites, Unchanged};

@@ -1,6 +1,6 @@
 //! The chain over the entries of an answer, kept for look-ups by number.
 
-ghost use Rattle.std.specs.Prelude.{◌≡◌, map, IfOk};
+ghost use Rattle.std.specs.Prelude.{◌≡◌, IfOk};
 ghost use Rattle.std.specs.List.{list_any};
 ghost use Rattle.nr_spec_history.specs.Conflicts.{answer_links, answer_value, is_stated};
 ghost use Rattle.nr_answer.specs.Views.{auth_of};

@@ -1,6 +1,6 @@
 //! Writing a file in whole.
 
-ghost use Rattle.std.specs.Prelude.{◌≡◌, false, Some, None, OnOk};
+ghost use Rattle.std.specs.Prelude.{◌≡◌, false, Some, OnOk};
 ghost use Rattle.nr_ports.specs.Ports.{Contents, ChangesOnly};
 ghost use Rattle.nr_ports.specs.Views.{CountsWriteFaults};
 ghost use Rattle.netreview.specs.Running.{IsLeft};

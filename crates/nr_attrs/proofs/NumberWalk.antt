@@ -1,5 +1,5 @@
 -- Numbers one behind another.
-use Rattle.std.proofs.Common.{◌≡◌, ℕ, zero, suc, ◌+◌, ◌-◌, ◌/◌, ◌≤◌, ◌<◌, Bool, true, false, ◌||◌, eqb, List, [], ◌∷◌, length, drop, refl, sym, ap, ◌∙◌, arith, length-drop}
+use Rattle.std.proofs.Common.{◌≡◌, ℕ, zero, suc, ◌-◌, ◌/◌, ◌≤◌, ◌<◌, Bool, true, false, List, [], ◌∷◌, length, drop, refl, ap, arith, length-drop}
 use Rattle.byteorder.specs.Endian.{big_number}
 use Rattle.nr_spec_bgp.specs.Paths.{as_size, counted_numbers, numbers_in, last_number}
 

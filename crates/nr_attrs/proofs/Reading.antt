@@ -1,10 +1,10 @@
 -- Reading attributes one behind another, as the loop does.
-use Rattle.std.proofs.Common.{◌≡◌, ◌≢◌, ℕ, ◌≤◌, ◌<◌, ◌^◌, Bool, true, false, List, [], ◌∷◌, ◌++◌, length, Option, Some, None, Result, Ok, Err, refl, sym, ap, subst, ◌∙◌, ◌-◌, take, arith}
+use Rattle.std.proofs.Common.{◌≡◌, ℕ, ◌≤◌, ◌<◌, ◌^◌, Bool, List, [], ◌∷◌, ◌++◌, length, Option, Some, None, Result, Ok, Err, refl, sym, ap, ◌∙◌, ◌-◌, arith}
 use Rattle.std.specs.Result.{result_unwrap_or}
 use Rattle.std.proofs.lemmas.List.{take_all}
-use Rattle.nr_spec_wire.specs.Reading.{Spot, Read, ◌>>=◌, wants, start_of, between}
-use Rattle.nr_spec_bgp.specs.Attributes.{Attribute, Placed, attribute_at, may_follow, attributes_from, attributes_at, attributes_in, AttributeBlock, block_at}
-use Rattle.nr_spec_bgp.proofs.Walks.{going_on, attributes_behind, attributes_step, attributes_end}
+use Rattle.nr_spec_wire.specs.Reading.{Spot, ◌>>=◌, wants, start_of, between}
+use Rattle.nr_spec_bgp.specs.Attributes.{Attribute, attribute_at, may_follow, attributes_at, attributes_in, block_at}
+use Rattle.nr_spec_bgp.proofs.Walks.{attributes_behind, attributes_step, attributes_end}
 use Rattle.nr_spec_bgp.proofs.Alike.{same_block}
 use Rattle.nr_attrs.specs.First.{FirstValues, none_yet, seen_after, StandsFor, IsInRange}
 use Rattle.nr_attrs.specs.Reading.{AreFirstOf, list_in}

@@ -1,8 +1,8 @@
 -- Segments one behind another.
-use Rattle.std.proofs.Common.{◌≡◌, ◌≢◌, ℕ, zero, suc, ◌+◌, ◌*◌, ◌/◌, ◌≤◌, ◌<◌, Bool, true, false, cond, eqb, leb, ◌&&◌, List, [], ◌∷◌, length, Result, Ok, Err, refl, sym, ap, ◌∙◌, arith}
+use Rattle.std.proofs.Common.{◌≡◌, ◌≢◌, ℕ, ◌≤◌, ◌<◌, Bool, true, false, List, [], ◌∷◌, length, Result, Ok, Err, refl, ap, ◌∙◌, arith}
 use Rattle.std.specs.Prelude.{is_ok}
 use Rattle.std.specs.Result.{result_unwrap_or}
-use Rattle.nr_spec_wire.specs.Reading.{Spot, Read, ◌>>=◌, number_at, bytes_at, wants, all_at}
+use Rattle.nr_spec_wire.specs.Reading.{Spot, ◌>>=◌}
 use Rattle.nr_spec_bgp.specs.Paths.{Segment, segment_at, segments_at, last_of, last_as}
 use Rattle.nr_spec_bgp.proofs.Walks.{all_step, all_end, segment_eats}
 use Rattle.nr_attrs.specs.Left.{segments_from}

@@ -1,11 +1,11 @@
 -- A path is no longer than its bytes.
-use Rattle.std.proofs.Common.{◌≡◌, ℕ, zero, suc, ◌+◌, ◌*◌, ◌/◌, ◌≤◌, ◌<◌, Bool, true, false, cond, eqb, leb, ◌&&◌, List, [], ◌∷◌, length, take, Result, Ok, Err, refl, sym, ap, subst, ◌∙◌, arith, length-take}
-use Rattle.std.specs.Prelude.{is_ok, sum_by}
+use Rattle.std.proofs.Common.{◌≡◌, ℕ, zero, suc, ◌+◌, ◌*◌, ◌≤◌, Bool, true, false, cond, eqb, leb, ◌&&◌, List, [], ◌∷◌, length, take, Result, Ok, Err, refl, ap, arith, length-take}
+use Rattle.std.specs.Prelude.{is_ok}
 use Rattle.std.specs.Result.{result_unwrap_or}
-use Rattle.nr_spec_wire.specs.Reading.{Spot, Read, ◌>>=◌, start_of, number_at, bytes_at, wants, values_at, all_at}
+use Rattle.nr_spec_wire.specs.Reading.{Spot, Read, ◌>>=◌, start_of, number_at, bytes_at, wants, values_at}
 use Rattle.nr_spec_bgp.specs.Paths.{Segment, as_size, numbers_in, segment_at, segments_at, segments_in, segment_len, path_len}
 use Rattle.nr_spec_bgp.specs.Attributes.{is_path}
-use Rattle.nr_spec_bgp.proofs.Steps.{bind_ok, ok_is, wants_ok, number_leaves, bytes_takes, bytes_leaves}
+use Rattle.nr_spec_bgp.proofs.Steps.{bind_ok, ok_is, number_leaves, bytes_takes, bytes_leaves}
 use Rattle.nr_spec_bgp.proofs.Walks.{all_end}
 use Rattle.std.proofs.lemmas.List.Sums.{sum_by-cons}
 use Rattle.nr_attrs.proofs.NumberWalk.{length_numbers}

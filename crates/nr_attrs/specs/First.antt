@@ -1,5 +1,5 @@
 -- The first value of each type, which is what a view keeps of a block.
-use Rattle.std.specs.Prelude.{◌≡◌, ℕ, ◌<◌, ◌^◌, Bool, true, List, [], ◌∷◌, ◌++◌, length, Option, Some, None, IfSome, ◌==◌, if◌then◌else◌}
+use Rattle.std.specs.Prelude.{◌≡◌, ℕ, ◌<◌, ◌^◌, Bool, true, List, length, Option, Some, None, IfSome, ◌==◌, if◌then◌else◌}
 use Rattle.nr_spec_bgp.specs.Attributes.{Attribute, is_origin, is_path, is_word, is_words, first_of}
 
 pub record FirstValues : Type 0 where

@@ -3,7 +3,7 @@
 ghost use Rattle.std.specs.Prelude.{◌≡◌, ◌<◌, ◌^◌, true, length, option_map, Ok, Err, OnOk, IfOk, IfErr, IfSome};
 ghost use Rattle.nr_bytes.specs.Views.{offset_of};
 ghost use Rattle.nr_spec_wire.specs.Reading.{start_of, Answers};
-ghost use Rattle.nr_spec_bgp.specs.Attributes.{block_at, attributes_at, attributes_in, number_of, is_word, is_path, path_in, communities_in, origin_of, next_hop_of, med_of, pref_of, path_of, has_community, is_complete};
+ghost use Rattle.nr_spec_bgp.specs.Attributes.{block_at, attributes_at, attributes_in, number_of, is_word, is_path, path_in, origin_of, next_hop_of, med_of, pref_of, path_of, has_community, is_complete};
 ghost use Rattle.nr_spec_bgp.specs.Paths.{hops, path_len, first_as, last_as, crosses};
 ghost use Rattle.nr_attrs.specs.Reading.{AreFirstOf};
 

@@ -1,6 +1,6 @@
 //! Messages.
 
-ghost use Rattle.std.specs.Prelude.{◌≡◌, Err, IfOk, IfErr};
+ghost use Rattle.std.specs.Prelude.{◌≡◌, Err};
 ghost use Rattle.nr_bytes.specs.Views.{offset_of};
 ghost use Rattle.nr_spec_wire.specs.Reading.{Answers};
 ghost use Rattle.nr_spec_bgp.specs.Messages.{is_marker, open_at, body_at, message_at, message_of};

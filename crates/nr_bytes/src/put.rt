@@ -1,6 +1,6 @@
 //! Appending fields to a vector. `Memory` leaves the vector as it was.
 
-ghost use Rattle.std.specs.Prelude.{◌≡◌, ◌++◌, [], ◌∷◌, OnOk, OnErr};
+ghost use Rattle.std.specs.Prelude.{◌≡◌, ◌++◌, OnOk, OnErr};
 ghost use Rattle.byteorder.specs.Endian.{big_bytes};
 
 use crate::fault::Memory;

@@ -1,6 +1,5 @@
 -- What this crate's types stand for in the definitions.
 use Rattle.std.specs.Prelude.{ℕ, List}
-use Rattle.sha2.specs.Sha256.{sha256}
 use Rattle.nr_spec_log.specs.Chain.{LogEntry, ChainItem, shown}
 use Rattle.nr_chain.specs.declared.digest.Digest.{Digest}
 use Rattle.nr_chain.specs.declared.item.Entry.{Entry}

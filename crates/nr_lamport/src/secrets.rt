@@ -2,7 +2,7 @@
 //! by its place would cost far more than the words themselves.
 
 ghost use Rattle.std.specs.Prelude.{◌≡◌, ◌+◌, ◌<◌, ◌^◌};
-ghost use Rattle.rand_chacha.specs.ChaCha.{ChaCha, key_of};
+ghost use Rattle.rand_chacha.specs.ChaCha.{key_of};
 ghost use Rattle.nr_spec_keys.specs.OneTime.{words_of};
 
 use crate::seed::Seed;

@@ -10,7 +10,7 @@ use Rattle.nr_spec_rules.specs.declared.kind.Kind.TheVariants as k
 use Rattle.nr_spec_rules.specs.declared.span.Span.{Span}
 use Rattle.nr_spec_rules.specs.Figures.{address_of, prefix_of, root_of}
 use Rattle.nr_spec_rules.specs.Tokens.{same_kind}
-use Rattle.nr_spec_rules.specs.Parsing.{Parser, pure}
+use Rattle.nr_spec_rules.specs.Parsing.{Parser}
 use Rattle.nr_rule_syntax.specs.declared.tree.Name.{Name}
 use Rattle.nr_rule_syntax.specs.declared.tree.Num.{Num}
 use Rattle.nr_rule_syntax.specs.declared.tree.RootText.{RootText}

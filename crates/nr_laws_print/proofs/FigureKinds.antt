@@ -7,7 +7,7 @@ use Rattle.std.proofs.lemmas.List.{append-nil}
 use Rattle.nr_spec_bgp.specs.Prefixes.{Cidr, IsCidr}
 use Rattle.nr_spec_bgp.specs.PrefixText.{address_text, cidr_text}
 use Rattle.nr_spec_rules.specs.declared.kind.Kind.TheVariants as k
-use Rattle.nr_spec_rules.specs.Figures.{worth_from, is_numeral, number_of, address_of, prefix_of, community_of, number_to, cut}
+use Rattle.nr_spec_rules.specs.Figures.{number_of, address_of, prefix_of, community_of, number_to, cut}
 use Rattle.nr_spec_rules.specs.Tokens.{in_figure, figure_kind}
 use Rattle.nr_rule_syntax.specs.Printing.{community_text}
 use Rattle.nr_rule_syntax.specs.Written.{is_short}

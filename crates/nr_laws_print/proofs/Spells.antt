@@ -17,7 +17,7 @@ use Rattle.nr_rule_syntax.specs.declared.tree.Term.TheVariants as terms
 use Rattle.nr_rule_syntax.specs.declared.tree.Cmp.{Cmp}
 use Rattle.nr_rule_syntax.specs.declared.tree.Cmp.TheVariants as cmps
 use Rattle.nr_rule_syntax.specs.Printing as text
-use Rattle.nr_rule_syntax.specs.Printing.{spelled, call_text, term_text, comparison_text, compared_text, side_text, route_text, community_text, bound_text, has_text, crosses_text, pair_text, Printed, within}
+use Rattle.nr_rule_syntax.specs.Printing.{spelled, call_text, term_text, comparison_text, compared_text, route_text, community_text, Printed, within}
 use Rattle.nr_rule_syntax.specs.Written.{is_word, is_name_word, is_name, is_short, is_term}
 use Rattle.nr_laws_print.proofs.Words.{Shown, Words, Worded, word, open_paren, close_paren, term_words, comparison_word, call_words, route_words, words_within, joined, each_behind}
 use Rattle.nr_laws_print.proofs.Figures.{of_both}

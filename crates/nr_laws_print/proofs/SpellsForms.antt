@@ -13,7 +13,7 @@ use Rattle.nr_rule_syntax.specs.declared.tree.Form.TheBlock.{the_family, member-
 use Rattle.nr_rule_syntax.specs.declared.tree.Form.TheOpen.{Form-F}
 use Rattle.nr_rule_syntax.specs.declared.tree.Form.TheViews.{roll-Form}
 use Rattle.nr_rule_syntax.specs.declared.tree.Form.TheFolds.{fold-roll-Form, ind-Form, map-Form, claims}
-use Rattle.nr_rule_syntax.specs.Printing.{spelled, Printed, printed_step, printed, within, tight, members_text, pair_text, bound_text, route_text, has_text, crosses_text, term_text, compared_text, community_text}
+use Rattle.nr_rule_syntax.specs.Printing.{spelled, Printed, printed_step, printed, within, members_text, pair_text, bound_text, route_text, has_text, crosses_text, term_text, compared_text, community_text}
 use Rattle.nr_rule_syntax.specs.Printing as text
 use Rattle.nr_rule_syntax.specs.Written.{is_name, is_term, is_short, written_step, is_written}
 use Rattle.nr_laws_print.proofs.Words.{Shown, Words, Worded, word, worded_step, worded, words_within, term_words, joined, and_word, or_word, not_word, implies_word, in_word, open_brace, close_brace, equal, if_word, then_word, else_word, end_word, members_words, group_words, if_words, route_words}

@@ -5,13 +5,13 @@ use Rattle.nr_spec_rules.specs.declared.kind.Kind.TheVariants as k
 use Rattle.nr_spec_rules.specs.declared.span.Span.{Span}
 use Rattle.nr_spec_rules.specs.Tokens.{Token, same_kind, kind_of, goes_on}
 use Rattle.nr_spec_rules.specs.Parsing as parsing
-use Rattle.nr_spec_rules.specs.Parsing.{Parser, sees, expect}
+use Rattle.nr_spec_rules.specs.Parsing.{expect}
 use Rattle.nr_rule_syntax.specs.declared.tree.Num.{Num}
 use Rattle.nr_rule_syntax.specs.declared.tree.RootText.{RootText}
 use Rattle.nr_rule_syntax.specs.declared.tree.Decl.TheVariants as decls
 use Rattle.nr_rule_syntax.specs.Reading as read
 use Rattle.nr_laws_rules.specs.Productions as words
-use Rattle.nr_laws_rules.specs.Productions.{StandsFor, token}
+use Rattle.nr_laws_rules.specs.Productions.{token}
 use Rattle.nr_laws_rules.specs.Grammar.{IsNumber, IsPrefix, IsRoot, IsNumbered, IsKey, IsNeighbour, IsGroup, IsPattern, IsDefine, IsPlaces, IsHeading, IsPromise, IsDecl, IsForm, held}
 use Rattle.nr_laws_rules.proofs.KindLaws.{Free}
 use Rattle.nr_laws_rules.proofs.Steps.{Traced, Decides, HasWord, IsChosen, Begins, word_of, widened, widened_word, refused_at_once, bound, next, mapped, pure_decides, expect_decides, one_leads, bind_leads, leads_begin, leads_follow, or_begins, chosen, ◌else◌, by_kind, maybe_decides, DecidesAt, passed_at, chosen_at}

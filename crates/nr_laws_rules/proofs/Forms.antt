@@ -4,7 +4,7 @@ use Rattle.nr_spec_rules.specs.declared.kind.Kind.{Kind}
 use Rattle.nr_spec_rules.specs.declared.kind.Kind.TheVariants as k
 use Rattle.nr_spec_rules.specs.Tokens.{Token, same_kind, kind_of, goes_on}
 use Rattle.nr_spec_rules.specs.Parsing as parsing
-use Rattle.nr_spec_rules.specs.Parsing.{Parser, and_then, expect}
+use Rattle.nr_spec_rules.specs.Parsing.{Parser}
 use Rattle.nr_rule_syntax.specs.declared.tree.Name.{Name}
 use Rattle.nr_rule_syntax.specs.declared.tree.Side.{Side}
 use Rattle.nr_rule_syntax.specs.declared.tree.Form.{Form}

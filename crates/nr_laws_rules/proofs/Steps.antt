@@ -7,7 +7,7 @@ use Rattle.nr_spec_rules.specs.declared.kind.Kind.TheVariants as k
 use Rattle.nr_spec_rules.specs.declared.span.Span.{Span}
 use Rattle.nr_spec_rules.specs.Tokens.{Token, same_kind, kind_of, place_of, text_of, span_of, goes_on}
 use Rattle.nr_spec_rules.specs.Parsing as read
-use Rattle.nr_spec_rules.specs.Parsing.{Parser, Outcome, and_then, sees, expect, valued, found, refuse}
+use Rattle.nr_spec_rules.specs.Parsing.{Parser, Outcome, and_then, sees, expect, valued}
 use Rattle.nr_laws_rules.specs.Productions as words
 use Rattle.nr_laws_rules.specs.Productions.{StandsFor, one, token}
 use Rattle.nr_laws_rules.proofs.Samples.{spelling, sample, placed, beyond, placed_joined}

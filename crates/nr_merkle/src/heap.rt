@@ -1,6 +1,6 @@
 //! A tree in one slice: node 1 is the root, node k stands over the nodes 2k and 2k + 1.
 
-ghost use Rattle.std.specs.Prelude.{◌≡◌, ◌+◌, ◌*◌, ◌^◌, ◌<◌, ◌≤◌, List, [], ◌∷◌, length, drop};
+ghost use Rattle.std.specs.Prelude.{◌≡◌, ◌+◌, ◌*◌, ◌^◌, ◌<◌, ◌≤◌, [], ◌∷◌, length, drop};
 ghost use Rattle.nr_spec_keys.specs.Pieces.{joined};
 ghost use Rattle.nr_spec_keys.specs.OneTime.{public_leaf_of};
 ghost use Rattle.nr_merkle.specs.Heap.{IsJoined};

@@ -3,7 +3,7 @@
 ghost use Rattle.std.specs.Prelude.{◌≡◌, ◌^◌, ◌<◌, ◌≤◌, ◌++◌, [], length, take, drop, OnOk, OnErr, Ok};
 ghost use Rattle.nr_spec_wire.specs.Reading.{start_of};
 ghost use Rattle.nr_spec_log.specs.Authenticator.{signature, signature_at};
-ghost use Rattle.nr_spec_keys.specs.Trees.{KeyTree, tree_of, root_of, path_of, sibling, signature_by, IsSigned};
+ghost use Rattle.nr_spec_keys.specs.Trees.{tree_of, root_of, path_of, sibling, signature_by, IsSigned};
 
 use crate::tree::Tree;
 use crate::verifying::signed_digest;

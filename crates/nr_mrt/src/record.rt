@@ -1,8 +1,8 @@
 //! Reading records.
 
-ghost use Rattle.std.specs.Prelude.{◌≡◌, ◌<◌, ◌^◌, length, option_map};
+ghost use Rattle.std.specs.Prelude.{◌≡◌, ◌<◌, ◌^◌, length};
 ghost use Rattle.nr_bytes.specs.Views.{offset_of};
-ghost use Rattle.nr_spec_wire.specs.Reading.{Reads, Answers, Gives, IsOnward, number_at};
+ghost use Rattle.nr_spec_wire.specs.Reading.{Reads, Answers, IsOnward, number_at};
 ghost use Rattle.nr_spec_bgp.specs.Paths.{as_size};
 ghost use Rattle.nr_spec_bgp.specs.Records.{is_session, is_state, is_message, is_as4, is_own, microseconds_at, peer_at, addresses_at, state_at, heard_at, session_at, item_at, record_at};
 ghost use Rattle.nr_mrt.specs.Views.{item_of, peer_of, Offers};

@@ -1,7 +1,7 @@
 //! Files in memory.
 
 ghost use Rattle.std.specs.Prelude.{◌≡◌, ◌≤◌, ◌↔◌, false, [], Some, option_map, length, is_err, IsTrue, IsErr, IfOk, OnOk, OnErr, IsErrOf};
-ghost use Rattle.nr_ports.specs.Ports.{Contents, MemoryFiles, bytes_of, read_count, filled, written, cut_to, raised, held_in, with_file, with_held, holding, calling, listed, counted, fails_next, after_reading};
+ghost use Rattle.nr_ports.specs.Ports.{MemoryFiles, bytes_of, read_count, filled, written, cut_to, raised, held_in, with_file, with_held, holding, calling, listed, counted, fails_next, after_reading};
 ghost use Rattle.nr_ports.specs.Views.{faults_with};
 
 use crate::calls::Calls;

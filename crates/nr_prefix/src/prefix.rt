@@ -1,7 +1,6 @@
 //! Prefixes.
 
-ghost use Rattle.std.specs.Prelude.{◌≡◌, ◌<◌, ◌≤◌, ◌^◌, IfSome, IfNone, is_some, nat_le};
-ghost use Rattle.std.specs.declared.cmp.Ordering.{Ordering};
+ghost use Rattle.std.specs.Prelude.{◌≡◌, ◌<◌, ◌≤◌, IfSome, is_some, nat_le};
 ghost use Rattle.nr_spec_bgp.specs.Prefixes.{IsCidr, front, masked, covers, comes_before};
 
 use std::marker::Model;

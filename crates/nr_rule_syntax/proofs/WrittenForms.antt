@@ -35,9 +35,6 @@ both_true false b p q = absurd cc
 
 -- ---- terms
 
-IsTerm : Term → Type 0
-IsTerm t = is_term t ≡ true
-
 yields_term_by : (kind : Kind) → Yields (λ t. is_term t ≡ true) (spec.term_by kind)
 yields_term_by k.Number = yields_map terms.Number yields_number (λ n h. h)
 yields_term_by k.Address = yields_map terms.Number yields_address (λ n h. h)

@@ -1,7 +1,7 @@
 -- What a block reads as doesn't depend on where it stands.
 use Rattle.std.proofs.Common.{◌≡◌, ℕ, zero, suc, Bool, true, false, cond, ltb, eqb, List, [], ◌∷◌, ◌++◌, length, take, Result, Ok, Err, refl, sym, ap, subst, ◌∙◌}
 use Rattle.byteorder.specs.Endian.{big_number}
-use Rattle.nr_spec_wire.specs.Reading.{Spot, Read, ◌>>=◌, past, number_at, bytes_at, wants}
+use Rattle.nr_spec_wire.specs.Reading.{Spot, ◌>>=◌, past, number_at, bytes_at, wants}
 use Rattle.nr_spec_bgp.specs.Prefixes.{faults_at}
 use Rattle.nr_spec_bgp.specs.Attributes.{Attribute, Placed, size_bytes, fields_at, attribute_at, may_follow, attributes_from, attributes_at}
 

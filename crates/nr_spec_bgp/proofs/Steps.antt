@@ -1,8 +1,8 @@
 -- One step of reading.
-use Rattle.std.proofs.Common.{◌≡◌, ℕ, ◌+◌, ◌≤◌, ◌<◌, Bool, true, false, cond, ltb, List, length, take, drop, Result, Ok, Err, refl, sym, ap, ◌∙◌, arith, length-drop}
+use Rattle.std.proofs.Common.{◌≡◌, ℕ, ◌+◌, ◌≤◌, Bool, true, false, cond, ltb, List, length, take, Result, Ok, Err, refl, sym, arith, length-drop}
 use Rattle.std.proofs.lemmas.Bool.{ltb-false}
 use Rattle.byteorder.specs.Endian.{big_number}
-use Rattle.nr_spec_wire.specs.Reading.{Spot, Read, ◌>>=◌, past, number_at, bytes_at, part_at, wants}
+use Rattle.nr_spec_wire.specs.Reading.{Spot, ◌>>=◌, past, number_at, bytes_at, wants}
 use Rattle.nr_spec_bgp.specs.Prefixes.{faults_at}
 
 -- the value of a step that didn't fail

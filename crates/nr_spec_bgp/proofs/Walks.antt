@@ -1,10 +1,10 @@
 -- Reading to the end of the bytes: the number of bytes is fuel enough.
-use Rattle.std.proofs.Common.{◌≡◌, ◌≢◌, ℕ, zero, suc, ◌+◌, ◌*◌, ◌≤◌, ◌<◌, Bool, true, false, cond, eqb, leb, ◌&&◌, List, [], ◌∷◌, ◌++◌, length, Result, Ok, Err, refl, sym, ap, ◌∙◌, arith}
+use Rattle.std.proofs.Common.{◌≡◌, ◌≢◌, ℕ, zero, suc, ◌+◌, ◌*◌, ◌≤◌, ◌<◌, Bool, true, false, cond, eqb, leb, ◌&&◌, List, [], ◌∷◌, ◌++◌, length, Result, Ok, Err, refl, ap, arith}
 use Rattle.std.proofs.lemmas.Bool.{eq-eqb, ne_eqb}
 use Rattle.nr_spec_wire.specs.Reading.{Spot, Read, ◌>>=◌, number_at, bytes_at, wants, values_at, all_at}
-use Rattle.nr_spec_bgp.specs.Paths.{Segment, as_size, numbers_in, segment_at}
-use Rattle.nr_spec_bgp.specs.Attributes.{Attribute, Placed, size_bytes, fields_at, attribute_at, may_follow, attributes_from, attributes_at}
-use Rattle.nr_spec_bgp.proofs.Steps.{bind_ok, ok_is, wants_ok, faults_ok, number_leaves, bytes_leaves}
+use Rattle.nr_spec_bgp.specs.Paths.{as_size, numbers_in, segment_at}
+use Rattle.nr_spec_bgp.specs.Attributes.{Attribute, Placed, size_bytes, fields_at, attribute_at, may_follow, attributes_from}
+use Rattle.nr_spec_bgp.proofs.Steps.{bind_ok, ok_is, faults_ok, number_leaves, bytes_leaves}
 
 -- what a reader leaves is shorter
 abbrev pub Eats : {A : Type 0} → (Spot → Read A) → Type 0

@@ -1,6 +1,6 @@
 -- AS_PATH: the networks that a route has gone through (RFC 4271, section 4.3 b and section 5.1.2; RFC 6793
 -- for numbers of four bytes; RFC 5065 for confederations).
-use Rattle.std.specs.Prelude.{◌≡◌, ℕ, zero, suc, ◌+◌, ◌*◌, ◌/◌, Bool, true, false, ◌&&◌, List, [], ◌∷◌, ◌++◌, length, drop, Result, Ok, Err, nat_lt, nat_le, ◌==◌, if◌then◌else◌, sum_by}
+use Rattle.std.specs.Prelude.{ℕ, zero, suc, ◌*◌, ◌/◌, Bool, true, false, ◌&&◌, List, [], ◌∷◌, length, drop, Result, Ok, nat_le, ◌==◌, if◌then◌else◌, sum_by}
 use Rattle.std.specs.List.{list_any, flat_map}
 use Rattle.std.specs.Result.{result_unwrap_or}
 use Rattle.byteorder.specs.Endian.{big_number}

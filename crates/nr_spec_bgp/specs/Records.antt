@@ -1,5 +1,5 @@
 -- MRT records of BGP sessions (RFC 6396, sections 2 to 4.4), and what is skipped.
-use Rattle.std.specs.Prelude.{◌≡◌, ℕ, ◌+◌, ◌*◌, ◌/◌, ◌%◌, Bool, true, false, ◌||◌, ◌&&◌, not, List, [], ◌∷◌, ◌++◌, length, Result, Ok, Err, ◌==◌, if◌then◌else◌}
+use Rattle.std.specs.Prelude.{ℕ, ◌+◌, ◌*◌, ◌/◌, ◌%◌, Bool, ◌||◌, ◌&&◌, List, ◌++◌, length, Result, Ok, ◌==◌, if◌then◌else◌}
 use Rattle.byteorder.specs.Endian.{big_bytes}
 use Rattle.nr_spec_wire.specs.Reading.{Spot, Read, ◌>>=◌, number_at, part_at}
 use Rattle.nr_spec_bgp.specs.Paths.{as_size}

@@ -1,5 +1,5 @@
 -- Reading entries one behind another, as a loop or an iterator does.
-use Rattle.std.proofs.Common.{◌≡◌, ℕ, zero, suc, ◌+◌, ◌-◌, ◌<◌, ◌≤◌, Bool, true, false, List, [], ◌∷◌, length, Option, Some, None, Result, Ok, Err, refl, sym, ap, ◌∙◌, arith}
+use Rattle.std.proofs.Common.{◌≡◌, ℕ, zero, suc, ◌+◌, ◌-◌, ◌<◌, ◌≤◌, Bool, false, List, [], length, None, Ok, Err, refl, sym, ap, ◌∙◌, arith}
 use Rattle.nr_spec_wire.specs.Reading.{Spot, Read, ◌>>=◌, rows, fault}
 use Rattle.nr_spec_wire.proofs.Steps.{behind, ok_is}
 use Rattle.nr_spec_log.specs.Chain.{LogEntry}

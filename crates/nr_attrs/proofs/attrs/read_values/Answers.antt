@@ -2,7 +2,7 @@ use Rattle.std.proofs.Common.{arith, sym}
 use Rattle.std.proofs.lemmas.Result.{err_from_is_err_and}
 use Rattle.nr_spec_bgp.proofs.Walks.{attribute_eats}
 use Rattle.nr_attrs.specs.Found.{placed_of}
-use Rattle.nr_attrs.proofs.Reading.{ends, goes_on, stops, faults}
+use Rattle.nr_attrs.proofs.Reading.{ends, stops, faults}
 use Rattle.nr_attrs.proofs.attrs.read_values.Goals as goal
 
 pub returns-in_err-found-clause-err : goal.returns-in_err-found-clause-err

@@ -1,5 +1,5 @@
 -- The tree that was built is the seed's, of height 2.
-use Rattle.std.proofs.Common.{◌≡◌, ℕ, ◌<◌, ◌^◌, sym, ap, ◌∙◌, arith}
+use Rattle.std.proofs.Common.{◌≡◌, ℕ, sym, ap, ◌∙◌}
 use Rattle.nr_spec_keys.specs.Trees.{KeyTree, tree_of}
 use Rattle.nr_rows.proofs.keys.put_signature.Goals as goal
 
