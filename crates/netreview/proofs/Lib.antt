@@ -1,4 +1,5 @@
 pub mod InputLemmas
+pub mod UnreadLemmas
 pub mod LinkLemmas
 pub mod WordLemmas
 pub mod AuditWordLemmas

@@ -4,7 +4,7 @@ use Rattle.std.specs.Fmt.{decimal}
 use Rattle.hex.specs.Hex.{encode_lower}
 use Rattle.nr_spec_wire.specs.Reading.{◌>>=◌}
 use Rattle.nr_spec_log.specs.Authenticator.{Authenticator, auths_of}
-use Rattle.nr_spec_log.specs.Answer.{answer_of}
+use Rattle.nr_spec_log.specs.Answer.{AnswerFile, answer_of}
 use Rattle.nr_spec_history.specs.KeyFiles.{Key, seed_of, key_file, key_root}
 use Rattle.nr_rule_syntax.specs.Printing.{file_text}
 use Rattle.nr_spec_history.specs.Report.{Fact, Form, Network, Unsigned, Head, Short, outcome, line, report_text}
@@ -180,3 +180,33 @@ output_of held (Check q) = None
 abbrev pub output_in : Contents → Option Request → Option Output
 output_in held None = None
 output_in held (Some request) = output_of held request
+
+-- ---- files that are read
+
+-- what is read behind a step that isn't refused
+abbrev pub behind : {A : Type 0} → Result A Refusal → List (List ℕ) → List (List ℕ)
+behind (Ok value) names = names
+behind (Err refusal) names = []
+
+-- A file is read where it is there and within its limit, and others only behind it.
+abbrev pub read_first : Input → Contents → List ℕ → List (List ℕ) → List (List ℕ)
+read_first input held name others = behind (present input (held name)) (name ∷ others)
+
+-- what the answer file of this name says
+abbrev pub answer_in : Contents → List ℕ → Result AnswerFile Refusal
+answer_in held name = present AnswerInput (held name) >>= λ bytes. well_formed AnswerInput (answer_of bytes)
+
+-- The names that each command reads: the files of its request in their order, each behind those before it.
+abbrev pub reads_of : Contents → Request → List (List ℕ)
+reads_of held (Audit q) =
+    read_first PromiseInput held q.promise
+    (behind (promise_in held q.promise)
+    (read_first AnswerInput held q.answer
+    (behind (answer_in held q.answer)
+    (read_first AuthsInput held q.auths []))))
+reads_of held (Keygen q) = read_first SeedInput held q.seed []
+reads_of held (Check q) = read_first PromiseInput held q.promise []
+
+abbrev pub reads_in : Contents → Option Request → List (List ℕ)
+reads_in held None = []
+reads_in held (Some request) = reads_of held request

@@ -167,8 +167,11 @@ impl<'a, R: Disk> Files for SystemFiles<'a, R> {
 
     ghost write_faults = { λ s. s.write_faults };
 
-    // Nothing is told of crashes: that a caller syncs follows from what it is for all files.
+    // Nothing is told of crashes, nor of what was read: that a caller syncs, and which files it reads, follows from
+    // what it is for all files.
     ghost is_pending = { λ _ _. false };
+
+    ghost reads = { λ _ _. 0 };
 
     fn size(&mut self, name: &str) -> Result<Option<u64>, Failed> {
         match self.counted(name) {

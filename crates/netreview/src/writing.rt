@@ -15,7 +15,8 @@ pub fn write_file<F: Files>(files: &mut F, name: &str, bytes: &[u8]) -> Result<(
     ensures left { (held : Contents) → F.holds files.old ≡ Some held
         → ChangesOnly held name.now (IsLeft bytes.now (held name.now)) (F.holds files.new) }
     ensures cause { CountsWriteFaults (F.write_faults files.old) (F.write_faults files.new) result }
-    ensures reads { F.read_faults files.new ≡ F.read_faults files.old }
+    ensures no_read { F.read_faults files.new ≡ F.read_faults files.old }
+    ensures unread { F.reads files.new ≡ F.reads files.old }
 {
     files.cut(name, 0)?;
     files.write_at(name, 0, bytes)?;

@@ -23,6 +23,11 @@ pub trait Files {
     /// proved for all files has to sync what it calls synced.
     ghost is_pending: { Self → List ℕ → Bool };
 
+    /// A count for each name that no call changes but one that reads its bytes. Behind such a call nothing is
+    /// said of it for that name. So a caller that is proved for all files, and keeps it for a name, has read none of
+    /// that file's bytes.
+    ghost reads: { Self → List ℕ → ℕ };
+
     /// How many bytes a file has. `None` exactly where the name is absent.
     fn size(&mut self, name: &str) -> Result<Option<u64>, Failed>
         ensures value { (held : Contents) → holds self.old ≡ Some held
@@ -30,7 +35,8 @@ pub trait Files {
         ensures same { holds self.new ≡ holds self.old }
         ensures cause { CountsFaults (read_faults self.old) (read_faults self.new) result }
         ensures writes { write_faults self.new ≡ write_faults self.old }
-        ensures pending { is_pending self.new ≡ is_pending self.old };
+        ensures pending { is_pending self.new ≡ is_pending self.old }
+        ensures unread { reads self.new ≡ reads self.old };
 
     /// Reads as many bytes as fit from a place on into the front of a buffer, and says how many. Fewer
     /// than fit into the buffer means that the file ends there; an absent name gives 0. After `Failed` the
@@ -44,7 +50,8 @@ pub trait Files {
         ensures same { holds self.new ≡ holds self.old }
         ensures cause { CountsFaults (read_faults self.old) (read_faults self.new) result }
         ensures writes { write_faults self.new ≡ write_faults self.old }
-        ensures pending { is_pending self.new ≡ is_pending self.old };
+        ensures pending { is_pending self.new ≡ is_pending self.old }
+        ensures unread { (other : List ℕ) → other ≢ name.now → reads self.new other ≡ reads self.old other };
 
     /// Writes bytes from a place on, over what is there and past the end. The place is at most the size, where
     /// that is told. An absent name is made. After `Failed` the range may hold any bytes, and after `Memory` all
@@ -58,7 +65,8 @@ pub trait Files {
         ensures memory { IsErrOf result WriteFault.Memory → holds self.new ≡ holds self.old }
         ensures untold { holds self.old ≡ None → holds self.new ≡ None }
         ensures cause { CountsWriteFaults (write_faults self.old) (write_faults self.new) result }
-        ensures reads { read_faults self.new ≡ read_faults self.old }
+        ensures no_read { read_faults self.new ≡ read_faults self.old }
+        ensures unread { reads self.new ≡ reads self.old }
         ensures pending { (other : List ℕ) → other ≢ name.now → is_pending self.new other ≡ is_pending self.old other }
         ensures unwritten { IsErrOf result WriteFault.Memory → is_pending self.new ≡ is_pending self.old };
 
@@ -72,7 +80,8 @@ pub trait Files {
         ensures memory { IsErrOf result WriteFault.Memory → holds self.new ≡ holds self.old }
         ensures untold { holds self.old ≡ None → holds self.new ≡ None }
         ensures cause { CountsWriteFaults (write_faults self.old) (write_faults self.new) result }
-        ensures reads { read_faults self.new ≡ read_faults self.old }
+        ensures no_read { read_faults self.new ≡ read_faults self.old }
+        ensures unread { reads self.new ≡ reads self.old }
         ensures pending { (other : List ℕ) → other ≢ name.now → is_pending self.new other ≡ is_pending self.old other }
         ensures unwritten { IsErrOf result WriteFault.Memory → is_pending self.new ≡ is_pending self.old };
 
@@ -80,7 +89,8 @@ pub trait Files {
     fn sync(&mut self, name: &str) -> Result<(), WriteFault>
         ensures same { holds self.new ≡ holds self.old }
         ensures cause { CountsWriteFaults (write_faults self.old) (write_faults self.new) result }
-        ensures reads { read_faults self.new ≡ read_faults self.old }
+        ensures no_read { read_faults self.new ≡ read_faults self.old }
+        ensures unread { reads self.new ≡ reads self.old }
         ensures synced { OnOk result (is_pending self.new name.now ≡ false) }
         ensures pending { (other : List ℕ) → other ≢ name.now → is_pending self.new other ≡ is_pending self.old other }
         ensures unsynced { OnErr result (is_pending self.new ≡ is_pending self.old) };

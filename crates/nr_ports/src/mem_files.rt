@@ -122,6 +122,9 @@ impl Files for MemFiles {
     // These files have no crash, which could leave something else.
     ghost is_pending = { λ _ _. false };
 
+    // Which files were read isn't kept.
+    ghost reads = { λ _ _. 0 };
+
     // It fails exactly where its number is listed.
     fn size(&mut self, name: &str) -> Result<Option<u64>, Failed>
         ensures size { IfOk result (λ size. size ≡ option_map length (held_in self.old.files name.now)) }

@@ -1,6 +1,6 @@
 //! Reading a file and writing a text in whole.
 
-ghost use Rattle.std.specs.Prelude.{◌≡◌, ◌++◌, ℕ, List, length, take, Some, IfOk, OnOk, OnErr};
+ghost use Rattle.std.specs.Prelude.{◌≡◌, ◌≢◌, ◌++◌, ℕ, List, length, take, Some, IfOk, OnOk, OnErr};
 ghost use Rattle.nr_ports.specs.Ports.{Contents, bytes_of, CountsFaults};
 ghost use Rattle.nr_ports.specs.Views.{CountsReadFaults, CountsWriteFaults, TookSome};
 
@@ -23,6 +23,7 @@ pub fn read_whole<F: Files>(
     ensures same { F.holds files.new ≡ F.holds files.old }
     ensures cause { CountsReadFaults (F.read_faults files.old) (F.read_faults files.new) result }
     ensures writes { F.write_faults files.new ≡ F.write_faults files.old }
+    ensures unread { (other : List ℕ) → other ≢ name.now → F.reads files.new other ≡ F.reads files.old other }
 {
     let mut bytes = vec![in alloc; 0u8; size as usize]?;
     let n = fill(files, name, &mut bytes)?;
@@ -38,6 +39,7 @@ fn fill<F: Files>(files: &mut F, name: &str, into: &mut [u8]) -> Result<usize, F
     ensures same { F.holds files.new ≡ F.holds files.old }
     ensures cause { CountsFaults (F.read_faults files.old) (F.read_faults files.new) result }
     ensures writes { F.write_faults files.new ≡ F.write_faults files.old }
+    ensures unread { (other : List ℕ) → other ≢ name.now → F.reads files.new other ≡ F.reads files.old other }
 {
     let mut at = 0;
     while at < into.len() {

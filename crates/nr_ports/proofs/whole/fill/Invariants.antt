@@ -1,4 +1,4 @@
-use Rattle.std.proofs.Common.{◌≡◌, ◌-◌, ◌≤◌, length, take, Some}
+use Rattle.std.proofs.Common.{◌≡◌, ◌≢◌, ℕ, List, ◌-◌, ◌≤◌, length, take, Some}
 use Rattle.nr_ports.specs.Ports.{Contents, bytes_of}
 use Rattle.nr_ports.proofs.whole.fill.Given as goal
 
@@ -8,6 +8,7 @@ invariant-loop-at g l = record {
   front : (held : Contents) → g.F.Files.holds l.fn.files ≡ Some held → take l.at l.into ≡ take l.at (bytes_of (held l.name));
   same : g.F.Files.holds l.files ≡ g.F.Files.holds l.fn.files;
   reads : g.F.Files.read_faults l.files ≡ g.F.Files.read_faults l.fn.files;
+  unread : (other : List ℕ) → other ≢ l.name → g.F.Files.reads l.files other ≡ g.F.Files.reads l.fn.files other;
   writes : g.F.Files.write_faults l.files ≡ g.F.Files.write_faults l.fn.files;
 }
 

@@ -17,7 +17,8 @@ write_at-tells c =
       memory = λ is. ap (λ l. Some (held_in l)) (after c.result Memory (new ≡ old) c.ensures.nothing is);
       untold = λ none. absurd (cc);
       cause = counts c.result c.args.self.now.write_faults c.new.self.now.write_faults c.ensures.writes;
-      reads = c.ensures.reads;
+      no_read = c.ensures.reads;
+      unread = refl;
       pending = λ other is. refl;
       unwritten = λ is. refl;
     }
@@ -32,7 +33,8 @@ cut-tells c =
       memory = λ is. ap (λ l. Some (held_in l)) (after c.result Memory (new ≡ old) c.ensures.nothing is);
       untold = λ none. absurd (cc);
       cause = counts c.result c.args.self.now.write_faults c.new.self.now.write_faults c.ensures.writes;
-      reads = c.ensures.reads;
+      no_read = c.ensures.reads;
+      unread = refl;
       pending = λ other is. refl;
       unwritten = λ is. refl;
     }
