@@ -181,22 +181,32 @@ abbrev pub output_in : Contents → Option Request → Option Output
 output_in held None = None
 output_in held (Some request) = output_of held request
 
--- ---- files that are read
+-- ---- files that are asked for
 
--- what is read behind a step that isn't refused
+-- what comes behind a step that isn't refused
 abbrev pub behind : {A : Type 0} → Result A Refusal → List (List ℕ) → List (List ℕ)
 behind (Ok value) names = names
 behind (Err refusal) names = []
-
--- A file is read where it is there and within its limit, and others only behind it.
-abbrev pub read_first : Input → Contents → List ℕ → List (List ℕ) → List (List ℕ)
-read_first input held name others = behind (present input (held name)) (name ∷ others)
 
 -- what the answer file of this name says
 abbrev pub answer_in : Contents → List ℕ → Result AnswerFile Refusal
 answer_in held name = present AnswerInput (held name) >>= λ bytes. well_formed AnswerInput (answer_of bytes)
 
--- The names that each command reads: the files of its request in their order, each behind those before it.
+-- The names that each command asks for: the files of its request in their order, each behind those before it.
+abbrev pub asks_of : Contents → Request → List (List ℕ)
+asks_of held (Audit q) = q.promise ∷ behind (promise_in held q.promise) (q.answer ∷ behind (answer_in held q.answer) (q.auths ∷ []))
+asks_of held (Keygen q) = q.seed ∷ []
+asks_of held (Check q) = q.promise ∷ []
+
+abbrev pub asks_in : Contents → Option Request → List (List ℕ)
+asks_in held None = []
+asks_in held (Some request) = asks_of held request
+
+-- A file is read where it is there and within its limit.
+abbrev pub read_first : Input → Contents → List ℕ → List (List ℕ) → List (List ℕ)
+read_first input held name others = behind (present input (held name)) (name ∷ others)
+
+-- the names whose bytes each command reads
 abbrev pub reads_of : Contents → Request → List (List ℕ)
 reads_of held (Audit q) =
     read_first PromiseInput held q.promise

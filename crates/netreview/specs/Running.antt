@@ -32,16 +32,16 @@ IsEnding e =
     (e ≡ usage_ending) ⊎ ((e ≡ read_fault_ending) ⊎ ((e ≡ write_fault_ending) ⊎ ((e ≡ memory_ending)
     ⊎ (((refusal : Refusal) × (e ≡ refusal_ending refusal)) ⊎ (e.status ≤ 1)))))
 
--- ---- files that are read
+-- ---- files that are asked for
 
 -- it is none of these names
 abbrev pub IsNoneOf : List ℕ → List (List ℕ) → Type 0
 IsNoneOf name [] = Unit {0}
 IsNoneOf name (other ∷ others) = (name ≢ other) × IsNoneOf name others
 
--- No file is read but those of these names.
-abbrev pub ReadsOnly : List (List ℕ) → (List ℕ → ℕ) → (List ℕ → ℕ) → Type 0
-ReadsOnly names old new = (name : List ℕ) → IsNoneOf name names → new name ≡ old name
+-- No count changes but those of these names.
+abbrev pub CountsOnly : List (List ℕ) → (List ℕ → ℕ) → (List ℕ → ℕ) → Type 0
+CountsOnly names old new = (name : List ℕ) → IsNoneOf name names → new name ≡ old name
 
 -- ---- files that are written
 

@@ -4,9 +4,9 @@ ghost use Rattle.std.specs.Prelude.{◌≡◌, ◌≢◌, ◌≤◌, Some, IfOk}
 ghost use Rattle.std.specs.String.{string_bytes};
 ghost use Rattle.nr_spec_history.specs.Report.{outcome};
 ghost use Rattle.nr_ports.specs.Ports.{Contents};
-ghost use Rattle.netreview.specs.Command.{audit_of, concluded, judged, reads_of};
+ghost use Rattle.netreview.specs.Command.{audit_of, concluded, judged, asks_of, reads_of};
 ghost use Rattle.netreview.specs.Words.{Audit};
-ghost use Rattle.netreview.specs.Running.{ReadsOnly};
+ghost use Rattle.netreview.specs.Running.{CountsOnly};
 ghost use Rattle.netreview.specs.Views.{Decides, CountsReads};
 ghost use Rattle.netreview.specs.Requests.{audit_request_of, period_of};
 ghost use Rattle.netreview.specs.Endings.{ending_of, Reports};
@@ -97,8 +97,10 @@ pub fn audit<F: Files>(
     ensures cause { CountsReads (F.read_faults files.old) (F.read_faults files.new) result }
     ensures writes { F.write_faults files.new ≡ F.write_faults files.old }
     ensures no_write { result ≢ Err Stop.WriteFault }
+    ensures unasked { (held : Contents) → F.holds files.old ≡ Some held
+        → CountsOnly (asks_of held (Audit (audit_request_of request.now))) (F.asks files.old) (F.asks files.new) }
     ensures unread { (held : Contents) → F.holds files.old ≡ Some held
-        → ReadsOnly (reads_of held (Audit (audit_request_of request.now))) (F.reads files.old) (F.reads files.new) }
+        → CountsOnly (reads_of held (Audit (audit_request_of request.now))) (F.reads files.old) (F.reads files.new) }
 {
     let promise = read_promise(alloc, files, request.promise)?;
     let answer_bytes = read_input(alloc, files, Input::Answer, request.answer)?;

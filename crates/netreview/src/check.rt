@@ -1,9 +1,9 @@
 //! The command `check`: the canonical text of a promise file.
 
-ghost use Rattle.std.specs.Prelude.{◌≡◌, ◌≢◌, Some, IfOk, []};
+ghost use Rattle.std.specs.Prelude.{◌≡◌, ◌≢◌, Some, IfOk, [], ◌∷◌};
 ghost use Rattle.nr_ports.specs.Ports.{Contents};
 ghost use Rattle.netreview.specs.Command.{promise_in, printed, read_first, PromiseInput};
-ghost use Rattle.netreview.specs.Running.{ReadsOnly};
+ghost use Rattle.netreview.specs.Running.{CountsOnly};
 ghost use Rattle.netreview.specs.Views.{Decides, CountsReads};
 ghost use Rattle.netreview.specs.Endings.{ending_of};
 
@@ -29,7 +29,8 @@ pub fn check_promise<F: Files>(
     ensures cause { CountsReads (F.read_faults files.old) (F.read_faults files.new) result }
     ensures writes { F.write_faults files.new ≡ F.write_faults files.old }
     ensures no_write { result ≢ Err Stop.WriteFault }
-    ensures unread { (held : Contents) → F.holds files.old ≡ Some held → ReadsOnly (read_first PromiseInput held request.now.promise.now []) (F.reads files.old) (F.reads files.new) }
+    ensures unasked { CountsOnly (request.now.promise.now ∷ []) (F.asks files.old) (F.asks files.new) }
+    ensures unread { (held : Contents) → F.holds files.old ≡ Some held → CountsOnly (read_first PromiseInput held request.now.promise.now []) (F.reads files.old) (F.reads files.new) }
 {
     let promise = read_promise(alloc, files, request.promise)?;
     let text = print(alloc, &promise.file)?;

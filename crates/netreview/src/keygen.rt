@@ -7,7 +7,7 @@ ghost use Rattle.nr_spec_history.specs.KeyFiles.{key_file, key_root};
 ghost use Rattle.nr_spec_history.specs.Report.{line};
 ghost use Rattle.nr_ports.specs.Ports.{Contents};
 ghost use Rattle.netreview.specs.Command.{keygen_of, made, key_ending, key_output, read_first, SeedInput};
-ghost use Rattle.netreview.specs.Running.{Leaves, MayLeave, ReadsOnly};
+ghost use Rattle.netreview.specs.Running.{Leaves, MayLeave, CountsOnly};
 ghost use Rattle.netreview.specs.Views.{Decides, CountsReads, CountsWrites, Unchanged};
 ghost use Rattle.netreview.specs.Requests.{keygen_request_of};
 ghost use Rattle.netreview.specs.Endings.{ending_of, key_of};
@@ -81,7 +81,8 @@ fn read_key<F: Files>(
     ensures cause { CountsReads (F.read_faults files.old) (F.read_faults files.new) result }
     ensures writes { F.write_faults files.new ≡ F.write_faults files.old }
     ensures no_write { result ≢ Err Stop.WriteFault }
-    ensures unread { (held : Contents) → F.holds files.old ≡ Some held → ReadsOnly (read_first SeedInput held request.now.seed.now []) (F.reads files.old) (F.reads files.new) }
+    ensures unasked { CountsOnly (request.now.seed.now ∷ []) (F.asks files.old) (F.asks files.new) }
+    ensures unread { (held : Contents) → F.holds files.old ≡ Some held → CountsOnly (read_first SeedInput held request.now.seed.now []) (F.reads files.old) (F.reads files.new) }
 {
     let bytes = read_input(alloc, files, Input::Seed, request.seed)?;
     Ok(read_seed(&bytes)?)
@@ -104,7 +105,8 @@ pub fn keygen<F: Files>(
     ensures same { Unchanged result (F.holds files.new ≡ F.holds files.old) }
     ensures left { (held : Contents) → F.holds files.old ≡ Some held
         → MayLeave held (key_output request.now.key.now (keygen_of held (keygen_request_of request.now))) (F.holds files.new) }
-    ensures unread { (held : Contents) → F.holds files.old ≡ Some held → ReadsOnly (read_first SeedInput held request.now.seed.now []) (F.reads files.old) (F.reads files.new) }
+    ensures unasked { CountsOnly (request.now.seed.now ∷ []) (F.asks files.old) (F.asks files.new) }
+    ensures unread { (held : Contents) → F.holds files.old ≡ Some held → CountsOnly (read_first SeedInput held request.now.seed.now []) (F.reads files.old) (F.reads files.new) }
 {
     let seed = read_key(alloc, files, request)?;
     let ending = key_ending(alloc, request, &seed)?;

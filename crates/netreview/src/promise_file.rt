@@ -1,10 +1,10 @@
 //! Promise files.
 
-ghost use Rattle.std.specs.Prelude.{◌≡◌, ◌≢◌, ◌≤◌, length, Some, []};
+ghost use Rattle.std.specs.Prelude.{◌≡◌, ◌≢◌, ◌≤◌, length, Some, [], ◌∷◌};
 ghost use Rattle.nr_ports.specs.Ports.{Contents};
 ghost use Rattle.netreview.specs.Promises.{promise_of};
 ghost use Rattle.netreview.specs.Command.{promise_in, read_first, well_formed, PromiseInput};
-ghost use Rattle.netreview.specs.Running.{ReadsOnly};
+ghost use Rattle.netreview.specs.Running.{CountsOnly};
 ghost use Rattle.netreview.specs.Views.{promise_file_of, Decides, CountsReads};
 
 use crate::input::Input;
@@ -43,7 +43,8 @@ pub fn read_promise<F: Files>(alloc: Global, files: &mut F, name: &str) -> Resul
     ensures cause { CountsReads (F.read_faults files.old) (F.read_faults files.new) result }
     ensures writes { F.write_faults files.new ≡ F.write_faults files.old }
     ensures no_write { result ≢ Err Stop.WriteFault }
-    ensures unread { (held : Contents) → F.holds files.old ≡ Some held → ReadsOnly (read_first PromiseInput held name.now []) (F.reads files.old) (F.reads files.new) }
+    ensures unasked { CountsOnly (name.now ∷ []) (F.asks files.old) (F.asks files.new) }
+    ensures unread { (held : Contents) → F.holds files.old ≡ Some held → CountsOnly (read_first PromiseInput held name.now []) (F.reads files.old) (F.reads files.new) }
 {
     let text = read_input(alloc, files, Input::Promise, name)?;
     promise_from(alloc, &text)

@@ -1,6 +1,6 @@
 //! Reading an input file in whole.
 
-ghost use Rattle.std.specs.Prelude.{◌≡◌, ◌≢◌, ◌≤◌, length, Some, IfOk, []};
+ghost use Rattle.std.specs.Prelude.{◌≡◌, ◌≢◌, ◌≤◌, length, Some, IfOk, [], ◌∷◌};
 ghost use Rattle.nr_spec_wire.specs.Reading.{Answers};
 ghost use Rattle.nr_spec_log.specs.Answer.{answer_of};
 ghost use Rattle.nr_spec_log.specs.Authenticator.{auths_of};
@@ -8,7 +8,7 @@ ghost use Rattle.nr_spec_history.specs.KeyFiles.{seed_of};
 ghost use Rattle.nr_bytes.specs.Views.{offset_of};
 ghost use Rattle.nr_ports.specs.Ports.{Contents};
 ghost use Rattle.netreview.specs.Command.{present, read_first, input_limit, well_formed, AnswerInput, AuthsInput, SeedInput};
-ghost use Rattle.netreview.specs.Running.{ReadsOnly};
+ghost use Rattle.netreview.specs.Running.{CountsOnly};
 ghost use Rattle.netreview.specs.Views.{input_of, seed_bytes, Decides, Settles, CountsReads};
 
 use crate::input::{Input, limit_of};
@@ -32,7 +32,8 @@ pub fn read_input<F: Files>(
     ensures cause { CountsReads (F.read_faults files.old) (F.read_faults files.new) result }
     ensures writes { F.write_faults files.new ≡ F.write_faults files.old }
     ensures no_write { result ≢ Err Stop.WriteFault }
-    ensures unread { (held : Contents) → F.holds files.old ≡ Some held → ReadsOnly (read_first (input_of input) held name.now []) (F.reads files.old) (F.reads files.new) }
+    ensures unasked { CountsOnly (name.now ∷ []) (F.asks files.old) (F.asks files.new) }
+    ensures unread { (held : Contents) → F.holds files.old ≡ Some held → CountsOnly (read_first (input_of input) held name.now []) (F.reads files.old) (F.reads files.new) }
 {
     let Some(found) = files.size(name)? else {
         return Err(Stop::Refused(Refusal::NoFile(input)));

@@ -4,10 +4,10 @@ ghost use Rattle.std.specs.Prelude.{◌≡◌, ◌≢◌, ◌≤◌, ◌⊎◌, 
 ghost use Rattle.std.specs.String.{string_bytes};
 ghost use Rattle.nr_ports.specs.Ports.{Contents, Rose};
 ghost use Rattle.netreview.specs.Words.{request_in, outputs_in};
-ghost use Rattle.netreview.specs.Command.{Ending, answered, output_in, reads_in, run_of};
+ghost use Rattle.netreview.specs.Command.{Ending, answered, asks_in, output_in, reads_in, run_of};
 ghost use Rattle.netreview.specs.Requests.{request_of};
 ghost use Rattle.netreview.specs.Endings.{fixed_of};
-ghost use Rattle.netreview.specs.Running.{MayEnd, IsEnding, StandsBehind, Delivers, Leaves, MayLeave, AreSynced, ReadsOnly};
+ghost use Rattle.netreview.specs.Running.{MayEnd, IsEnding, StandsBehind, Delivers, Leaves, MayLeave, AreSynced, CountsOnly};
 
 use crate::commands::perform;
 use crate::ending::{Fixed, out_of_memory, read_fault, refused, usage, write_fault};
@@ -69,8 +69,10 @@ fn run_request<F: Files, S: Sink>(
         → MayLeave held (output_in held (Some (request_of request.now))) (F.holds files.new) }
     ensures reading { outputs_in (Some (request_of request.now)) ≡ [] → F.holds files.new ≡ F.holds files.old }
     ensures reading_writes { outputs_in (Some (request_of request.now)) ≡ [] → F.write_faults files.new ≡ F.write_faults files.old }
+    ensures unasked { (held : Contents) → F.holds files.old ≡ Some held
+        → CountsOnly (asks_in held (Some (request_of request.now))) (F.asks files.old) (F.asks files.new) }
     ensures unread { (held : Contents) → F.holds files.old ≡ Some held
-        → ReadsOnly (reads_in held (Some (request_of request.now))) (F.reads files.old) (F.reads files.new) }
+        → CountsOnly (reads_in held (Some (request_of request.now))) (F.reads files.old) (F.reads files.new) }
 {
     match perform(alloc, files, request) {
         Ok(ending) => deliver(out, ending.status, &ending.text),
@@ -128,10 +130,12 @@ pub fn run<F: Files, S: Sink>(alloc: Global, words: &[String], files: &mut F, ou
     ensures reading { outputs_in (request_in (map string_bytes words.now)) ≡ [] → F.holds files.new ≡ F.holds files.old }
     ensures reading_writes { outputs_in (request_in (map string_bytes words.now)) ≡ [] → F.write_faults files.new ≡ F.write_faults files.old }
 
-    // No file is read but the files that the words name, and of these none past its limit, nor one behind one that is
-    // refused.
+    // No file is asked for but those that the words name, and none behind one that is refused, so a fault of a later file
+    // hides nothing of an earlier one. Of a file past its limit nothing is read.
+    ensures unasked { (held : Contents) → F.holds files.old ≡ Some held
+        → CountsOnly (asks_in held (request_in (map string_bytes words.now))) (F.asks files.old) (F.asks files.new) }
     ensures unread { (held : Contents) → F.holds files.old ≡ Some held
-        → ReadsOnly (reads_in held (request_in (map string_bytes words.now))) (F.reads files.old) (F.reads files.new) }
+        → CountsOnly (reads_in held (request_in (map string_bytes words.now))) (F.reads files.old) (F.reads files.new) }
 {
     match request_from(alloc, words) {
         Err(Memory) => deliver_fixed(out, out_of_memory()),

@@ -167,9 +167,11 @@ impl<'a, R: Disk> Files for SystemFiles<'a, R> {
 
     ghost write_faults = { λ s. s.write_faults };
 
-    // Nothing is told of crashes, nor of what was read: that a caller syncs, and which files it reads, follows from
+    // Nothing is told of crashes, nor of what was asked: that a caller syncs, and which files it asks for, follows from
     // what it is for all files.
     ghost is_pending = { λ _ _. false };
+
+    ghost asks = { λ _ _. 0 };
 
     ghost reads = { λ _ _. 0 };
 

@@ -722,6 +722,8 @@ impl Files for TooLong {
 
     ghost is_pending = { λ _ _. false };
 
+    ghost asks = { λ _ _. 0 };
+
     ghost reads = { λ _ _. 0 };
 
     fn size(&mut self, name: &str) -> Result<Option<u64>, Failed> {

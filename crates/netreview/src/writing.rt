@@ -16,6 +16,7 @@ pub fn write_file<F: Files>(files: &mut F, name: &str, bytes: &[u8]) -> Result<(
         → ChangesOnly held name.now (IsLeft bytes.now (held name.now)) (F.holds files.new) }
     ensures cause { CountsWriteFaults (F.write_faults files.old) (F.write_faults files.new) result }
     ensures no_read { F.read_faults files.new ≡ F.read_faults files.old }
+    ensures unasked { F.asks files.new ≡ F.asks files.old }
     ensures unread { F.reads files.new ≡ F.reads files.old }
 {
     files.cut(name, 0)?;

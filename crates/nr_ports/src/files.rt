@@ -23,9 +23,12 @@ pub trait Files {
     /// proved for all files has to sync what it calls synced.
     ghost is_pending: { Self → List ℕ → Bool };
 
-    /// A count for each name that no call changes but one that reads its bytes. Behind such a call nothing is
-    /// said of it for that name. So a caller that is proved for all files, and keeps it for a name, has read none of
-    /// that file's bytes.
+    /// A count for each name that no call changes but one that asks for its size or its bytes. Behind such a call
+    /// nothing is said of it for that name. So a caller that is proved for all files, and keeps it for a name, has
+    /// asked nothing of that file.
+    ghost asks: { Self → List ℕ → ℕ };
+
+    /// The same for its bytes alone: a caller that keeps it has read none of them.
     ghost reads: { Self → List ℕ → ℕ };
 
     /// How many bytes a file has. `None` exactly where the name is absent.
@@ -36,6 +39,7 @@ pub trait Files {
         ensures cause { CountsFaults (read_faults self.old) (read_faults self.new) result }
         ensures writes { write_faults self.new ≡ write_faults self.old }
         ensures pending { is_pending self.new ≡ is_pending self.old }
+        ensures unasked { (other : List ℕ) → other ≢ name.now → asks self.new other ≡ asks self.old other }
         ensures unread { reads self.new ≡ reads self.old };
 
     /// Reads as many bytes as fit from a place on into the front of a buffer, and says how many. Fewer
@@ -51,6 +55,7 @@ pub trait Files {
         ensures cause { CountsFaults (read_faults self.old) (read_faults self.new) result }
         ensures writes { write_faults self.new ≡ write_faults self.old }
         ensures pending { is_pending self.new ≡ is_pending self.old }
+        ensures unasked { (other : List ℕ) → other ≢ name.now → asks self.new other ≡ asks self.old other }
         ensures unread { (other : List ℕ) → other ≢ name.now → reads self.new other ≡ reads self.old other };
 
     /// Writes bytes from a place on, over what is there and past the end. The place is at most the size, where
@@ -66,6 +71,7 @@ pub trait Files {
         ensures untold { holds self.old ≡ None → holds self.new ≡ None }
         ensures cause { CountsWriteFaults (write_faults self.old) (write_faults self.new) result }
         ensures no_read { read_faults self.new ≡ read_faults self.old }
+        ensures unasked { asks self.new ≡ asks self.old }
         ensures unread { reads self.new ≡ reads self.old }
         ensures pending { (other : List ℕ) → other ≢ name.now → is_pending self.new other ≡ is_pending self.old other }
         ensures unwritten { IsErrOf result WriteFault.Memory → is_pending self.new ≡ is_pending self.old };
@@ -81,6 +87,7 @@ pub trait Files {
         ensures untold { holds self.old ≡ None → holds self.new ≡ None }
         ensures cause { CountsWriteFaults (write_faults self.old) (write_faults self.new) result }
         ensures no_read { read_faults self.new ≡ read_faults self.old }
+        ensures unasked { asks self.new ≡ asks self.old }
         ensures unread { reads self.new ≡ reads self.old }
         ensures pending { (other : List ℕ) → other ≢ name.now → is_pending self.new other ≡ is_pending self.old other }
         ensures unwritten { IsErrOf result WriteFault.Memory → is_pending self.new ≡ is_pending self.old };
@@ -90,6 +97,7 @@ pub trait Files {
         ensures same { holds self.new ≡ holds self.old }
         ensures cause { CountsWriteFaults (write_faults self.old) (write_faults self.new) result }
         ensures no_read { read_faults self.new ≡ read_faults self.old }
+        ensures unasked { asks self.new ≡ asks self.old }
         ensures unread { reads self.new ≡ reads self.old }
         ensures synced { OnOk result (is_pending self.new name.now ≡ false) }
         ensures pending { (other : List ℕ) → other ≢ name.now → is_pending self.new other ≡ is_pending self.old other }

@@ -122,7 +122,9 @@ impl Files for MemFiles {
     // These files have no crash, which could leave something else.
     ghost is_pending = { λ _ _. false };
 
-    // Which files were read isn't kept.
+    // Which files were asked for isn't kept.
+    ghost asks = { λ _ _. 0 };
+
     ghost reads = { λ _ _. 0 };
 
     // It fails exactly where its number is listed.
