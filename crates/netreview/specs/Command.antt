@@ -192,7 +192,7 @@ behind (Err refusal) names = []
 abbrev pub answer_in : Contents → List ℕ → Result AnswerFile Refusal
 answer_in held name = present AnswerInput (held name) >>= λ bytes. well_formed AnswerInput (answer_of bytes)
 
--- The names that each command asks for: the files of its request in their order, each behind those before it.
+-- The names that each command may ask for: the input files of its request in their order, each behind those before it.
 abbrev pub asks_of : Contents → Request → List (List ℕ)
 asks_of held (Audit q) = q.promise ∷ behind (promise_in held q.promise) (q.answer ∷ behind (answer_in held q.answer) (q.auths ∷ []))
 asks_of held (Keygen q) = q.seed ∷ []

@@ -5,7 +5,7 @@ ghost use Rattle.std.specs.String.{string_bytes};
 ghost use Rattle.nr_spec_history.specs.Report.{outcome};
 ghost use Rattle.nr_ports.specs.Ports.{Contents};
 ghost use Rattle.netreview.specs.Command.{audit_of, concluded, judged, asks_of, reads_of};
-ghost use Rattle.netreview.specs.Words.{Audit};
+ghost use Rattle.netreview.specs.Words.{Audit, inputs_of};
 ghost use Rattle.netreview.specs.Running.{CountsOnly};
 ghost use Rattle.netreview.specs.Views.{Decides, CountsReads};
 ghost use Rattle.netreview.specs.Requests.{audit_request_of, period_of};
@@ -97,6 +97,8 @@ pub fn audit<F: Files>(
     ensures cause { CountsReads (F.read_faults files.old) (F.read_faults files.new) result }
     ensures writes { F.write_faults files.new ≡ F.write_faults files.old }
     ensures no_write { result ≢ Err Stop.WriteFault }
+    ensures pending { F.is_pending files.new ≡ F.is_pending files.old }
+    ensures inputs { CountsOnly (inputs_of (Audit (audit_request_of request.now))) (F.asks files.old) (F.asks files.new) }
     ensures unasked { (held : Contents) → F.holds files.old ≡ Some held
         → CountsOnly (asks_of held (Audit (audit_request_of request.now))) (F.asks files.old) (F.asks files.new) }
     ensures unread { (held : Contents) → F.holds files.old ≡ Some held

@@ -29,6 +29,7 @@ pub fn check_promise<F: Files>(
     ensures cause { CountsReads (F.read_faults files.old) (F.read_faults files.new) result }
     ensures writes { F.write_faults files.new ≡ F.write_faults files.old }
     ensures no_write { result ≢ Err Stop.WriteFault }
+    ensures pending { F.is_pending files.new ≡ F.is_pending files.old }
     ensures unasked { CountsOnly (request.now.promise.now ∷ []) (F.asks files.old) (F.asks files.new) }
     ensures unread { (held : Contents) → F.holds files.old ≡ Some held → CountsOnly (read_first PromiseInput held request.now.promise.now []) (F.reads files.old) (F.reads files.new) }
 {

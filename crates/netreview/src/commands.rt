@@ -1,10 +1,10 @@
 //! The table of commands.
 
-ghost use Rattle.std.specs.Prelude.{◌≡◌, ◌≢◌, ◌≤◌, [], Some, IfOk, OnOk};
+ghost use Rattle.std.specs.Prelude.{◌≡◌, ◌≢◌, ◌≤◌, List, ℕ, [], Some, None, IfOk, OnOk};
 ghost use Rattle.nr_ports.specs.Ports.{Contents};
-ghost use Rattle.netreview.specs.Words.{outputs_of};
+ghost use Rattle.netreview.specs.Words.{inputs_of, outputs_of};
 ghost use Rattle.netreview.specs.Command.{decided, output_of, asks_of, reads_of};
-ghost use Rattle.netreview.specs.Running.{AreSynced, Leaves, MayLeave, CountsOnly};
+ghost use Rattle.netreview.specs.Running.{AreSynced, Leaves, MayLeave, IsNoneOf, CountsOnly};
 ghost use Rattle.netreview.specs.Views.{Decides, CountsReads, CountsWrites, Unchanged};
 ghost use Rattle.netreview.specs.Requests.{request_of};
 ghost use Rattle.netreview.specs.Endings.{ending_of};
@@ -37,6 +37,10 @@ pub fn perform<F: Files>(
     ensures reading { outputs_of (request_of request.now) ≡ [] → F.holds files.new ≡ F.holds files.old }
     ensures no_write { outputs_of (request_of request.now) ≡ [] → result ≢ Err Stop.WriteFault }
     ensures no_write_count { outputs_of (request_of request.now) ≡ [] → F.write_faults files.new ≡ F.write_faults files.old }
+    ensures unwritten { (held : Contents) → F.holds files.old ≡ Some held → output_of held (request_of request.now) ≡ None → F.write_faults files.new ≡ F.write_faults files.old }
+    ensures unpending { (held : Contents) → F.holds files.old ≡ Some held → output_of held (request_of request.now) ≡ None → F.is_pending files.new ≡ F.is_pending files.old }
+    ensures others { (name : List ℕ) → IsNoneOf name (outputs_of (request_of request.now)) → F.is_pending files.new name ≡ F.is_pending files.old name }
+    ensures inputs { CountsOnly (inputs_of (request_of request.now)) (F.asks files.old) (F.asks files.new) }
     ensures unasked { (held : Contents) → F.holds files.old ≡ Some held → CountsOnly (asks_of held (request_of request.now)) (F.asks files.old) (F.asks files.new) }
     ensures unread { (held : Contents) → F.holds files.old ≡ Some held → CountsOnly (reads_of held (request_of request.now)) (F.reads files.old) (F.reads files.new) }
 {

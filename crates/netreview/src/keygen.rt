@@ -1,6 +1,6 @@
 //! The command `keygen`: a key file from a seed file.
 
-ghost use Rattle.std.specs.Prelude.{◌≡◌, ◌≢◌, ◌∷◌, [], codes, Some, false, IfOk, OnOk};
+ghost use Rattle.std.specs.Prelude.{◌≡◌, ◌≢◌, ◌∷◌, [], codes, List, ℕ, Some, None, false, IfOk, OnOk};
 ghost use Rattle.std.specs.String.{string_bytes};
 ghost use Rattle.hex.specs.Hex.{encode_lower};
 ghost use Rattle.nr_spec_history.specs.KeyFiles.{key_file, key_root};
@@ -81,6 +81,7 @@ fn read_key<F: Files>(
     ensures cause { CountsReads (F.read_faults files.old) (F.read_faults files.new) result }
     ensures writes { F.write_faults files.new ≡ F.write_faults files.old }
     ensures no_write { result ≢ Err Stop.WriteFault }
+    ensures pending { F.is_pending files.new ≡ F.is_pending files.old }
     ensures unasked { CountsOnly (request.now.seed.now ∷ []) (F.asks files.old) (F.asks files.new) }
     ensures unread { (held : Contents) → F.holds files.old ≡ Some held → CountsOnly (read_first SeedInput held request.now.seed.now []) (F.reads files.old) (F.reads files.new) }
 {
@@ -105,6 +106,11 @@ pub fn keygen<F: Files>(
     ensures same { Unchanged result (F.holds files.new ≡ F.holds files.old) }
     ensures left { (held : Contents) → F.holds files.old ≡ Some held
         → MayLeave held (key_output request.now.key.now (keygen_of held (keygen_request_of request.now))) (F.holds files.new) }
+    ensures unwritten { (held : Contents) → F.holds files.old ≡ Some held → key_output request.now.key.now (keygen_of held (keygen_request_of request.now)) ≡ None
+        → F.write_faults files.new ≡ F.write_faults files.old }
+    ensures unpending { (held : Contents) → F.holds files.old ≡ Some held → key_output request.now.key.now (keygen_of held (keygen_request_of request.now)) ≡ None
+        → F.is_pending files.new ≡ F.is_pending files.old }
+    ensures others { (other : List ℕ) → other ≢ request.now.key.now → F.is_pending files.new other ≡ F.is_pending files.old other }
     ensures unasked { CountsOnly (request.now.seed.now ∷ []) (F.asks files.old) (F.asks files.new) }
     ensures unread { (held : Contents) → F.holds files.old ≡ Some held → CountsOnly (read_first SeedInput held request.now.seed.now []) (F.reads files.old) (F.reads files.new) }
 {

@@ -32,6 +32,7 @@ pub fn read_input<F: Files>(
     ensures cause { CountsReads (F.read_faults files.old) (F.read_faults files.new) result }
     ensures writes { F.write_faults files.new ≡ F.write_faults files.old }
     ensures no_write { result ≢ Err Stop.WriteFault }
+    ensures pending { F.is_pending files.new ≡ F.is_pending files.old }
     ensures unasked { CountsOnly (name.now ∷ []) (F.asks files.old) (F.asks files.new) }
     ensures unread { (held : Contents) → F.holds files.old ≡ Some held → CountsOnly (read_first (input_of input) held name.now []) (F.reads files.old) (F.reads files.new) }
 {

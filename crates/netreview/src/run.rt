@@ -1,13 +1,13 @@
 //! The top call: words in, a status out, and one text at the sink.
 
-ghost use Rattle.std.specs.Prelude.{◌≡◌, ◌≢◌, ◌≤◌, ◌⊎◌, [], map, None, Some};
+ghost use Rattle.std.specs.Prelude.{◌≡◌, ◌≢◌, ◌≤◌, ◌⊎◌, List, ℕ, [], map, None, Some};
 ghost use Rattle.std.specs.String.{string_bytes};
 ghost use Rattle.nr_ports.specs.Ports.{Contents, Rose};
-ghost use Rattle.netreview.specs.Words.{request_in, outputs_in};
+ghost use Rattle.netreview.specs.Words.{request_in, inputs_in, outputs_in};
 ghost use Rattle.netreview.specs.Command.{Ending, answered, asks_in, output_in, reads_in, run_of};
 ghost use Rattle.netreview.specs.Requests.{request_of};
 ghost use Rattle.netreview.specs.Endings.{fixed_of};
-ghost use Rattle.netreview.specs.Running.{MayEnd, IsEnding, StandsBehind, Delivers, Leaves, MayLeave, AreSynced, CountsOnly};
+ghost use Rattle.netreview.specs.Running.{MayEnd, IsEnding, StandsBehind, Delivers, Leaves, MayLeave, AreSynced, IsNoneOf, CountsOnly};
 
 use crate::commands::perform;
 use crate::ending::{Fixed, out_of_memory, read_fault, refused, usage, write_fault};
@@ -69,6 +69,10 @@ fn run_request<F: Files, S: Sink>(
         → MayLeave held (output_in held (Some (request_of request.now))) (F.holds files.new) }
     ensures reading { outputs_in (Some (request_of request.now)) ≡ [] → F.holds files.new ≡ F.holds files.old }
     ensures reading_writes { outputs_in (Some (request_of request.now)) ≡ [] → F.write_faults files.new ≡ F.write_faults files.old }
+    ensures unwritten { (held : Contents) → F.holds files.old ≡ Some held → output_in held (Some (request_of request.now)) ≡ None → F.write_faults files.new ≡ F.write_faults files.old }
+    ensures unpending { (held : Contents) → F.holds files.old ≡ Some held → output_in held (Some (request_of request.now)) ≡ None → F.is_pending files.new ≡ F.is_pending files.old }
+    ensures others { (name : List ℕ) → IsNoneOf name (outputs_in (Some (request_of request.now))) → F.is_pending files.new name ≡ F.is_pending files.old name }
+    ensures inputs { CountsOnly (inputs_in (Some (request_of request.now))) (F.asks files.old) (F.asks files.new) }
     ensures unasked { (held : Contents) → F.holds files.old ≡ Some held
         → CountsOnly (asks_in held (Some (request_of request.now))) (F.asks files.old) (F.asks files.new) }
     ensures unread { (held : Contents) → F.holds files.old ≡ Some held
@@ -130,8 +134,14 @@ pub fn run<F: Files, S: Sink>(alloc: Global, words: &[String], files: &mut F, ou
     ensures reading { outputs_in (request_in (map string_bytes words.now)) ≡ [] → F.holds files.new ≡ F.holds files.old }
     ensures reading_writes { outputs_in (request_in (map string_bytes words.now)) ≡ [] → F.write_faults files.new ≡ F.write_faults files.old }
 
-    // No file is asked for but those that the words name, and none behind one that is refused, so a fault of a later file
-    // hides nothing of an earlier one. Of a file past its limit nothing is read.
+    // Nothing is written, cut or synced where what the files hold is refused, nor ever under another name than the words allow.
+    ensures unwritten { (held : Contents) → F.holds files.old ≡ Some held → output_in held (request_in (map string_bytes words.now)) ≡ None → F.write_faults files.new ≡ F.write_faults files.old }
+    ensures unpending { (held : Contents) → F.holds files.old ≡ Some held → output_in held (request_in (map string_bytes words.now)) ≡ None → F.is_pending files.new ≡ F.is_pending files.old }
+    ensures others { (name : List ℕ) → IsNoneOf name (outputs_in (request_in (map string_bytes words.now))) → F.is_pending files.new name ≡ F.is_pending files.old name }
+
+    // No file is asked for but the input files that the words name. Where the files tell what they hold, none is asked for behind
+    // one that is refused, so a fault of a later file hides nothing of an earlier one; of a file past its limit nothing is read.
+    ensures inputs { CountsOnly (inputs_in (request_in (map string_bytes words.now))) (F.asks files.old) (F.asks files.new) }
     ensures unasked { (held : Contents) → F.holds files.old ≡ Some held
         → CountsOnly (asks_in held (request_in (map string_bytes words.now))) (F.asks files.old) (F.asks files.new) }
     ensures unread { (held : Contents) → F.holds files.old ≡ Some held

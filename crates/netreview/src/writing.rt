@@ -1,6 +1,6 @@
 //! Writing a file in whole.
 
-ghost use Rattle.std.specs.Prelude.{◌≡◌, false, Some, OnOk};
+ghost use Rattle.std.specs.Prelude.{◌≡◌, ◌≢◌, ℕ, List, false, Some, OnOk};
 ghost use Rattle.nr_ports.specs.Ports.{Contents, ChangesOnly};
 ghost use Rattle.nr_ports.specs.Views.{CountsWriteFaults};
 ghost use Rattle.netreview.specs.Running.{IsLeft};
@@ -16,6 +16,7 @@ pub fn write_file<F: Files>(files: &mut F, name: &str, bytes: &[u8]) -> Result<(
         → ChangesOnly held name.now (IsLeft bytes.now (held name.now)) (F.holds files.new) }
     ensures cause { CountsWriteFaults (F.write_faults files.old) (F.write_faults files.new) result }
     ensures no_read { F.read_faults files.new ≡ F.read_faults files.old }
+    ensures pending { (other : List ℕ) → other ≢ name.now → F.is_pending files.new other ≡ F.is_pending files.old other }
     ensures unasked { F.asks files.new ≡ F.asks files.old }
     ensures unread { F.reads files.new ≡ F.reads files.old }
 {

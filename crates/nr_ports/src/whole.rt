@@ -23,6 +23,7 @@ pub fn read_whole<F: Files>(
     ensures same { F.holds files.new ≡ F.holds files.old }
     ensures cause { CountsReadFaults (F.read_faults files.old) (F.read_faults files.new) result }
     ensures writes { F.write_faults files.new ≡ F.write_faults files.old }
+    ensures pending { F.is_pending files.new ≡ F.is_pending files.old }
     ensures unasked { (other : List ℕ) → other ≢ name.now → F.asks files.new other ≡ F.asks files.old other }
     ensures unread { (other : List ℕ) → other ≢ name.now → F.reads files.new other ≡ F.reads files.old other }
 {
@@ -40,6 +41,7 @@ fn fill<F: Files>(files: &mut F, name: &str, into: &mut [u8]) -> Result<usize, F
     ensures same { F.holds files.new ≡ F.holds files.old }
     ensures cause { CountsFaults (F.read_faults files.old) (F.read_faults files.new) result }
     ensures writes { F.write_faults files.new ≡ F.write_faults files.old }
+    ensures pending { F.is_pending files.new ≡ F.is_pending files.old }
     ensures unasked { (other : List ℕ) → other ≢ name.now → F.asks files.new other ≡ F.asks files.old other }
     ensures unread { (other : List ℕ) → other ≢ name.now → F.reads files.new other ≡ F.reads files.old other }
 {

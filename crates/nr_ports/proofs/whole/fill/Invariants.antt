@@ -8,6 +8,7 @@ invariant-loop-at g l = record {
   front : (held : Contents) → g.F.Files.holds l.fn.files ≡ Some held → take l.at l.into ≡ take l.at (bytes_of (held l.name));
   same : g.F.Files.holds l.files ≡ g.F.Files.holds l.fn.files;
   reads : g.F.Files.read_faults l.files ≡ g.F.Files.read_faults l.fn.files;
+  pending : g.F.Files.is_pending l.files ≡ g.F.Files.is_pending l.fn.files;
   unasked : (other : List ℕ) → other ≢ l.name → g.F.Files.asks l.files other ≡ g.F.Files.asks l.fn.files other;
   unread : (other : List ℕ) → other ≢ l.name → g.F.Files.reads l.files other ≡ g.F.Files.reads l.fn.files other;
   writes : g.F.Files.write_faults l.files ≡ g.F.Files.write_faults l.fn.files;
