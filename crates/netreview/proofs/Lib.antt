@@ -1,5 +1,6 @@
 pub mod InputLemmas
 pub mod UnreadLemmas
+pub mod ShownLemmas
 pub mod LinkLemmas
 pub mod WordLemmas
 pub mod AuditWordLemmas

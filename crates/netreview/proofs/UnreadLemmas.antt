@@ -4,7 +4,7 @@ use Rattle.nr_spec_wire.specs.Reading.{◌>>=◌}
 use Rattle.nr_spec_log.specs.Answer.{AnswerFile, answer_of}
 use Rattle.nr_ports.specs.Ports.{Contents}
 use Rattle.netreview.specs.Promises.{PromiseFile}
-use Rattle.netreview.specs.Command.{PromiseInput, AnswerInput, Refusal, present, behind, read_first, promise_in, answer_in, well_formed}
+use Rattle.netreview.specs.Command.{PromiseInput, AnswerInput, Refusal, present, behind, read_first, promise_by, promise_in, answer_in, well_formed}
 use Rattle.netreview.specs.Running.{CountsOnly}
 
 -- others may be read behind it
@@ -33,7 +33,7 @@ then_ok : {A B : Type 0} (step : Result A Refusal) (next : A → Result B Refusa
 then_ok step next first value is so = rw is so
 
 promise_present : (held : Contents) (name : List ℕ) (value : PromiseFile) → promise_in held name ≡ Ok value → (text : List ℕ) × (present PromiseInput (held name) ≡ Ok text)
-unfolding promise_in
+unfolding promise_by
 promise_present held name value is = first_ok (present PromiseInput (held name)) _ value is
 
 -- behind a promise file that was read

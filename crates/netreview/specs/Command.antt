@@ -60,28 +60,38 @@ abbrev pub judged : {A : Type 0} → Result A Fact → Result A Refusal
 judged (Ok value) = Ok value
 judged (Err fact) = Err (Refused fact)
 
--- what the promise file of this name says
-unfoldable pub promise_in : Contents → List ℕ → Result PromiseFile Refusal
-promise_in held name = do
-  text ← present PromiseInput (held name)
+-- what a promise file says
+unfoldable pub promise_by : Option (List ℕ) → Result PromiseFile Refusal
+promise_by file = do
+  text ← present PromiseInput file
   well_formed PromiseInput (promise_of text)
 
--- the first refusal, or the conflicts
-unfoldable pub audit_of : Contents → AuditRequest → Result (List Authenticator) Refusal
-audit_of held q = do
-  promise ← promise_in held q.promise
-  answer_bytes ← present AnswerInput (held q.answer)
+-- The first refusal, or the conflicts, by the promise file, the answer file and the authenticator file.
+unfoldable pub audit_by : AuditRequest → Option (List ℕ) → Option (List ℕ) → Option (List ℕ) → Result (List Authenticator) Refusal
+audit_by q promise_file answer_file auths_file = do
+  promise ← promise_by promise_file
+  answer_bytes ← present AnswerInput answer_file
   answer ← well_formed AnswerInput (answer_of answer_bytes)
-  auths_bytes ← present AuthsInput (held q.auths)
+  auths_bytes ← present AuthsInput auths_file
   auths ← well_formed AuthsInput (auths_of auths_bytes)
   judged (outcome q.root promise.says.network answer q.period auths)
 
--- the first refusal, or the key that is made
-unfoldable pub keygen_of : Contents → KeygenRequest → Result Key Refusal
-keygen_of held q = do
-  seed_bytes ← present SeedInput (held q.seed)
+-- the first refusal, or the key that is made, by the seed file
+unfoldable pub keygen_by : KeygenRequest → Option (List ℕ) → Result Key Refusal
+keygen_by q seed_file = do
+  seed_bytes ← present SeedInput seed_file
   seed ← well_formed SeedInput (seed_of seed_bytes)
   Ok (record { asn = q.asn; height = q.height; seed = seed })
+
+-- the same by the names of the files
+abbrev pub promise_in : Contents → List ℕ → Result PromiseFile Refusal
+promise_in held name = promise_by (held name)
+
+abbrev pub audit_of : Contents → AuditRequest → Result (List Authenticator) Refusal
+audit_of held q = audit_by q (held q.promise) (held q.answer) (held q.auths)
+
+abbrev pub keygen_of : Contents → KeygenRequest → Result Key Refusal
+keygen_of held q = keygen_by q (held q.seed)
 
 -- ---- endings
 

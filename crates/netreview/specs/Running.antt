@@ -1,8 +1,9 @@
 -- What a run may answer, what the sink has of it, and what it leaves of the files.
-use Rattle.std.specs.Prelude.{◌≡◌, ◌≢◌, ℕ, ◌≤◌, Bool, false, ◌⊎◌, List, [], ◌∷◌, ◌++◌, length, Option, None, Some}
+use Rattle.std.specs.Prelude.{◌≡◌, ◌≢◌, ℕ, Bool, false, ◌⊎◌, List, [], ◌∷◌, ◌++◌, length, Option, None, Some}
 use Rattle.nr_ports.specs.Ports.{Contents, ChangesOnly, Torn, TornCut, TornWrite}
 use Rattle.nr_ports.specs.Views.{TookSome}
-use Rattle.netreview.specs.Command.{Ending, Output, Refusal, usage_ending, read_fault_ending, write_fault_ending, memory_ending, refusal_ending}
+use Rattle.netreview.specs.Words.{Request, Audit, Keygen, Check}
+use Rattle.netreview.specs.Command.{Ending, Output, usage_ending, read_fault_ending, write_fault_ending, memory_ending, promise_by, audit_by, keygen_by, printed, concluded, made, ended}
 
 -- The ending is that of a read fault or of a write fault, where one was counted, or that of want of memory, or, where
 -- the files tell what they hold, the one that is given by what they hold.
@@ -25,12 +26,17 @@ abbrev pub Delivers : Option (List ℕ) → Option (List ℕ) → Type 0 → End
 Delivers old new failed e status =
     ((status ≡ e.status) × TookAll old new e.text) ⊎ ((((status ≡ 5) × failed) ⊎ (status ≡ 6)) × TookFront old new e.text)
 
--- Whatever the files tell, the text goes with the status: it is the line of a usage, of a fault, of want of memory or of some
--- refusal, or the command is done.
-abbrev pub IsEnding : Ending → Type 0
-IsEnding e =
-    (e ≡ usage_ending) ⊎ ((e ≡ read_fault_ending) ⊎ ((e ≡ write_fault_ending) ⊎ ((e ≡ memory_ending)
-    ⊎ (((refusal : Refusal) × (e ≡ refusal_ending refusal)) ⊎ (e.status ≤ 1)))))
+-- Whatever the files tell: what the words give, by some input files.
+abbrev pub IsAnswer : Option Request → Ending → Type 0
+IsAnswer None e = e ≡ usage_ending
+IsAnswer (Some (Audit q)) e =
+    (promise : Option (List ℕ)) × (answer : Option (List ℕ)) × (auths : Option (List ℕ)) × (e ≡ ended (concluded (audit_by q promise answer auths)))
+IsAnswer (Some (Keygen q)) e = (seed : Option (List ℕ)) × (e ≡ ended (made (keygen_by q seed)))
+IsAnswer (Some (Check q)) e = (promise : Option (List ℕ)) × (e ≡ ended (printed (promise_by promise)))
+
+-- It is that, or the line of a fault or of want of memory.
+abbrev pub IsEnding : Option Request → Ending → Type 0
+IsEnding request e = (e ≡ read_fault_ending) ⊎ ((e ≡ write_fault_ending) ⊎ ((e ≡ memory_ending) ⊎ IsAnswer request e))
 
 -- ---- files that are asked for
 
@@ -50,8 +56,8 @@ abbrev pub Leaves : Contents → Option Output → Option Contents → Type 0
 Leaves held None new = new ≡ Some held
 Leaves held (Some output) new = ChangesOnly held output.name (λ file. file ≡ Some output.bytes) new
 
--- What a cut to nothing, or a write of these bytes behind it, may leave: what was there, a part of it that was cut or
--- overwritten, or a part of the bytes.
+-- What a cut to nothing, or a write of these bytes behind it, may leave: any bytes where the step failed, and no more of
+-- them than were there, or than are to be.
 abbrev pub IsLeft : List ℕ → Option (List ℕ) → Option (List ℕ) → Type 0
 IsLeft bytes old file = Torn (TornCut 0) old file ⊎ Torn (TornWrite 0 (length bytes)) (Some []) file
 
@@ -66,7 +72,7 @@ abbrev pub AreSynced : (List ℕ → Bool) → List (List ℕ) → Type 0
 AreSynced is_pending [] = Unit {0}
 AreSynced is_pending (name ∷ names) = (is_pending name ≡ false) × AreSynced is_pending names
 
--- What stands when an ending is offered: with status 0 the file that the command writes holds its bytes and is synced, and
+-- What stands with an ending: with status 0 the file that the command writes holds its bytes and is synced, and
 -- with a status but this, that of a write fault and that of want of memory no file has changed.
 pub record StandsBehind (e : Ending) (told : Option Contents) (output : Contents → Option Output) (now : Option Contents) (synced : Type 0) : Type 0 where
   pub written : e.status ≡ 0 → (held : Contents) → told ≡ Some held → Leaves held (output held) now

@@ -1,5 +1,5 @@
 -- What this crate's types stand for in the definitions.
-use Rattle.std.specs.Prelude.{◌≡◌, ◌≢◌, ℕ, List, Result, Ok, Err}
+use Rattle.std.specs.Prelude.{◌≡◌, ◌≢◌, ℕ, List, Option, Result, Ok, Err}
 use Rattle.nr_spec_history.specs.Report as report
 use Rattle.nr_lamport.specs.declared.seed.Seed.{Seed}
 use Rattle.nr_ports.specs.Ports.{Rose}
@@ -77,6 +77,10 @@ Decides view (Err (stop.Refused r)) decided = decided ≡ Err (refusal_of r)
 Decides view (Err stop.ReadFault) decided = Unit {0}
 Decides view (Err stop.WriteFault) decided = Unit {0}
 Decides view (Err stop.Memory) decided = Unit {0}
+
+-- A step gives what the definition's step gives by some file, whatever the files tell.
+abbrev pub Shows : {X Y : Type 0} → (X → Y) → Result X Stop → (Option (List ℕ) → Result Y command.Refusal) → Type 0
+Shows view result by = (file : Option (List ℕ)) × Decides view result (by file)
 
 -- The same of a step that reads no file and takes no memory.
 abbrev pub Settles : {X Y : Type 0} → (X → Y) → Result X Refusal → Result Y command.Refusal → Type 0

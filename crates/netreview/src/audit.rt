@@ -9,7 +9,7 @@ ghost use Rattle.netreview.specs.Words.{Audit, inputs_of};
 ghost use Rattle.netreview.specs.Running.{CountsOnly};
 ghost use Rattle.netreview.specs.Views.{Decides, CountsReads};
 ghost use Rattle.netreview.specs.Requests.{audit_request_of, period_of};
-ghost use Rattle.netreview.specs.Endings.{ending_of, Reports};
+ghost use Rattle.netreview.specs.Endings.{ending_of, Reports, ShowsAnswer};
 
 use crate::conflicts::conflict_lines;
 use crate::ending::Ending;
@@ -85,13 +85,14 @@ fn judge(
 }
 
 /// What the request gives: the report, or the first thing that stops it.
-#[tactic(auto, unfolding(crate::specs::Command::audit_of))]
+#[tactic(auto, unfolding(crate::specs::Command::audit_by))]
 pub fn audit<F: Files>(
     alloc: Global,
     files: &mut F,
     request: &AuditRequest<'_>,
 ) -> Result<Ending, Stop>
     ensures value { (held : Contents) → F.holds files.old ≡ Some held → Decides ending_of result (concluded (audit_of held (audit_request_of request.now))) }
+    ensures shows { ShowsAnswer (Audit (audit_request_of request.now)) result }
     ensures status { IfOk result (λ e. e.status ≤ 1) }
     ensures same { F.holds files.new ≡ F.holds files.old }
     ensures cause { CountsReads (F.read_faults files.old) (F.read_faults files.new) result }

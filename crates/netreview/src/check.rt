@@ -2,9 +2,9 @@
 
 ghost use Rattle.std.specs.Prelude.{◌≡◌, ◌≢◌, Some, IfOk, [], ◌∷◌};
 ghost use Rattle.nr_ports.specs.Ports.{Contents};
-ghost use Rattle.netreview.specs.Command.{promise_in, printed, read_first, PromiseInput};
+ghost use Rattle.netreview.specs.Command.{promise_by, promise_in, printed, read_first, PromiseInput};
 ghost use Rattle.netreview.specs.Running.{CountsOnly};
-ghost use Rattle.netreview.specs.Views.{Decides, CountsReads};
+ghost use Rattle.netreview.specs.Views.{Decides, Shows, CountsReads};
 ghost use Rattle.netreview.specs.Endings.{ending_of};
 
 use crate::ending::Ending;
@@ -24,6 +24,7 @@ pub fn check_promise<F: Files>(
     request: &CheckRequest<'_>,
 ) -> Result<Ending, Stop>
     ensures value { (held : Contents) → F.holds files.old ≡ Some held → Decides ending_of result (printed (promise_in held request.now.promise.now)) }
+    ensures shows { Shows ending_of result (λ promise. printed (promise_by promise)) }
     ensures status { IfOk result (λ e. e.status ≡ 0) }
     ensures same { F.holds files.new ≡ F.holds files.old }
     ensures cause { CountsReads (F.read_faults files.old) (F.read_faults files.new) result }

@@ -7,7 +7,7 @@ ghost use Rattle.netreview.specs.Command.{decided, output_of, asks_of, reads_of}
 ghost use Rattle.netreview.specs.Running.{AreSynced, Leaves, MayLeave, IsNoneOf, CountsOnly};
 ghost use Rattle.netreview.specs.Views.{Decides, CountsReads, CountsWrites, Unchanged};
 ghost use Rattle.netreview.specs.Requests.{request_of};
-ghost use Rattle.netreview.specs.Endings.{ending_of};
+ghost use Rattle.netreview.specs.Endings.{ending_of, ShowsAnswer};
 
 use crate::audit::audit;
 use crate::check::check_promise;
@@ -25,6 +25,7 @@ pub fn perform<F: Files>(
     request: &Request<'_>,
 ) -> Result<Ending, Stop>
     ensures value { (held : Contents) → F.holds files.old ≡ Some held → Decides ending_of result (decided held (request_of request.now)) }
+    ensures shows { ShowsAnswer (request_of request.now) result }
     ensures status { IfOk result (λ e. e.status ≤ 1) }
     ensures reads { CountsReads (F.read_faults files.old) (F.read_faults files.new) result }
     ensures writes { CountsWrites (F.write_faults files.old) (F.write_faults files.new) result }

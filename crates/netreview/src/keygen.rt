@@ -6,9 +6,9 @@ ghost use Rattle.hex.specs.Hex.{encode_lower};
 ghost use Rattle.nr_spec_history.specs.KeyFiles.{key_file, key_root};
 ghost use Rattle.nr_spec_history.specs.Report.{line};
 ghost use Rattle.nr_ports.specs.Ports.{Contents};
-ghost use Rattle.netreview.specs.Command.{keygen_of, made, key_ending, key_output, read_first, SeedInput};
+ghost use Rattle.netreview.specs.Command.{keygen_by, keygen_of, made, key_ending, key_output, read_first, SeedInput};
 ghost use Rattle.netreview.specs.Running.{Leaves, MayLeave, CountsOnly};
-ghost use Rattle.netreview.specs.Views.{Decides, CountsReads, CountsWrites, Unchanged};
+ghost use Rattle.netreview.specs.Views.{Decides, Shows, CountsReads, CountsWrites, Unchanged};
 ghost use Rattle.netreview.specs.Requests.{keygen_request_of};
 ghost use Rattle.netreview.specs.Endings.{ending_of, key_of};
 
@@ -70,13 +70,14 @@ fn key_ending(alloc: Global, request: &KeygenRequest<'_>, seed: &Seed) -> Result
 }
 
 // The seed of the key that is asked for.
-#[tactic(auto, unfolding(crate::specs::Command::keygen_of))]
+#[tactic(auto, unfolding(crate::specs::Command::keygen_by))]
 fn read_key<F: Files>(
     alloc: Global,
     files: &mut F,
     request: &KeygenRequest<'_>,
 ) -> Result<Seed, Stop>
     ensures value { (held : Contents) → F.holds files.old ≡ Some held → Decides (key_of request.now) result (keygen_of held (keygen_request_of request.now)) }
+    ensures shows { Shows (key_of request.now) result (keygen_by (keygen_request_of request.now)) }
     ensures same { F.holds files.new ≡ F.holds files.old }
     ensures cause { CountsReads (F.read_faults files.old) (F.read_faults files.new) result }
     ensures writes { F.write_faults files.new ≡ F.write_faults files.old }
@@ -97,6 +98,7 @@ pub fn keygen<F: Files>(
     request: &KeygenRequest<'_>,
 ) -> Result<Ending, Stop>
     ensures value { (held : Contents) → F.holds files.old ≡ Some held → Decides ending_of result (made (keygen_of held (keygen_request_of request.now))) }
+    ensures shows { Shows ending_of result (λ seed. made (keygen_by (keygen_request_of request.now) seed)) }
     ensures status { IfOk result (λ e. e.status ≡ 0) }
     ensures reads { CountsReads (F.read_faults files.old) (F.read_faults files.new) result }
     ensures writes { CountsWrites (F.write_faults files.old) (F.write_faults files.new) result }

@@ -3,9 +3,9 @@
 ghost use Rattle.std.specs.Prelude.{◌≡◌, ◌≢◌, ◌≤◌, length, Some, [], ◌∷◌};
 ghost use Rattle.nr_ports.specs.Ports.{Contents};
 ghost use Rattle.netreview.specs.Promises.{promise_of};
-ghost use Rattle.netreview.specs.Command.{promise_in, read_first, well_formed, PromiseInput};
+ghost use Rattle.netreview.specs.Command.{promise_by, promise_in, read_first, well_formed, PromiseInput};
 ghost use Rattle.netreview.specs.Running.{CountsOnly};
-ghost use Rattle.netreview.specs.Views.{promise_file_of, Decides, CountsReads};
+ghost use Rattle.netreview.specs.Views.{promise_file_of, Decides, Shows, CountsReads};
 
 use crate::input::Input;
 use crate::reading::read_input;
@@ -36,9 +36,10 @@ fn promise_from(alloc: Global, text: &[u8]) -> Result<PromiseFile, Stop>
 }
 
 /// What the promise file of this name says.
-#[tactic(auto, unfolding(crate::specs::Command::promise_in))]
+#[tactic(auto, unfolding(crate::specs::Command::promise_by))]
 pub fn read_promise<F: Files>(alloc: Global, files: &mut F, name: &str) -> Result<PromiseFile, Stop>
     ensures value { (held : Contents) → F.holds files.old ≡ Some held → Decides promise_file_of result (promise_in held name.now) }
+    ensures shows { Shows promise_file_of result promise_by }
     ensures same { F.holds files.new ≡ F.holds files.old }
     ensures cause { CountsReads (F.read_faults files.old) (F.read_faults files.new) result }
     ensures writes { F.write_faults files.new ≡ F.write_faults files.old }

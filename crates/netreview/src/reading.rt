@@ -9,7 +9,7 @@ ghost use Rattle.nr_bytes.specs.Views.{offset_of};
 ghost use Rattle.nr_ports.specs.Ports.{Contents};
 ghost use Rattle.netreview.specs.Command.{present, read_first, input_limit, well_formed, AnswerInput, AuthsInput, SeedInput};
 ghost use Rattle.netreview.specs.Running.{CountsOnly};
-ghost use Rattle.netreview.specs.Views.{input_of, seed_bytes, Decides, Settles, CountsReads};
+ghost use Rattle.netreview.specs.Views.{input_of, seed_bytes, Decides, Shows, Settles, CountsReads};
 
 use crate::input::{Input, limit_of};
 use crate::refusal::{Refusal, Stop};
@@ -27,6 +27,7 @@ pub fn read_input<F: Files>(
     name: &str,
 ) -> Result<Vec<u8>, Stop>
     ensures value { (held : Contents) → F.holds files.old ≡ Some held → Decides (λ bytes. bytes.items) result (present (input_of input) (held name.now)) }
+    ensures shows { Shows (λ bytes. bytes.items) result (present (input_of input)) }
     ensures limit { IfOk result (λ bytes. length bytes.items ≤ input_limit (input_of input)) }
     ensures same { F.holds files.new ≡ F.holds files.old }
     ensures cause { CountsReads (F.read_faults files.old) (F.read_faults files.new) result }

@@ -49,7 +49,7 @@ fn run_request<F: Files, S: Sink>(
 ) -> u8
     ensures ends { (e : Ending) × MayEnd (F.holds files.old) (Rose (F.read_faults files.old) (F.read_faults files.new)) (Rose (F.write_faults files.old) (F.write_faults files.new))
         (λ held. answered held (Some (request_of request.now))) e
-        × IsEnding e
+        × IsEnding (Some (request_of request.now)) e
         × StandsBehind e (F.holds files.old) (λ held. output_in held (Some (request_of request.now))) (F.holds files.new) (AreSynced (F.is_pending files.new) (outputs_in (Some (request_of request.now))))
         × Delivers (S.taken out.old) (S.taken out.new) (Rose (S.faults out.old) (S.faults out.new)) e result }
     ensures no_usage { result ≢ 2 }
@@ -94,11 +94,11 @@ fn run_request<F: Files, S: Sink>(
 /// the network promised, and judges none of it yet: it finds conflicts alone.
 pub fn run<F: Files, S: Sink>(alloc: Global, words: &[String], files: &mut F, out: &mut S) -> u8
     // One ending is offered: the one that the words and the files give, where these tell what they hold,
-    // or that of a fault of the files, or that of want of memory. It is offered once the files stand as they are left. The sink
-    // has it whole, unless it failed or found no memory.
+    // or that of a fault of the files, or that of want of memory. Whatever the files tell, it is one that the words give by some
+    // input files. The files stand as they have to with it. The sink has it whole, unless it failed or found no memory.
     ensures ends { (e : Ending) × MayEnd (F.holds files.old) (Rose (F.read_faults files.old) (F.read_faults files.new)) (Rose (F.write_faults files.old) (F.write_faults files.new))
         (λ held. run_of held (map string_bytes words.now)) e
-        × IsEnding e
+        × IsEnding (request_in (map string_bytes words.now)) e
         × StandsBehind e (F.holds files.old) (λ held. output_in held (request_in (map string_bytes words.now))) (F.holds files.new) (AreSynced (F.is_pending files.new) (outputs_in (request_in (map string_bytes words.now))))
         × Delivers (S.taken out.old) (S.taken out.new) (Rose (S.faults out.old) (S.faults out.new)) e result }
 
@@ -114,8 +114,8 @@ pub fn run<F: Files, S: Sink>(alloc: Global, words: &[String], files: &mut F, ou
     ensures write_fault { result ≡ 5 → Rose (F.write_faults files.old) (F.write_faults files.new) ⊎ Rose (S.faults out.old) (S.faults out.new) }
     ensures sink_fault { outputs_in (request_in (map string_bytes words.now)) ≡ [] → result ≡ 5 → Rose (S.faults out.old) (S.faults out.new) }
 
-    // The first fault of the files ends the work: never two kinds of it. Every status but those of a fault and of want of memory
-    // comes only where no count rose.
+    // Calls that read and calls that write never both fail. Every status but those of a fault and of want of memory comes
+    // only where no count rose.
     ensures one_fault { (F.read_faults files.new ≡ F.read_faults files.old) ⊎ (F.write_faults files.new ≡ F.write_faults files.old) }
     ensures no_read { result ≢ 4 → result ≢ 5 → result ≢ 6 → F.read_faults files.new ≡ F.read_faults files.old }
     ensures no_write { result ≢ 5 → result ≢ 6 → F.write_faults files.new ≡ F.write_faults files.old }

@@ -1,6 +1,9 @@
-use Rattle.std.proofs.Common.{◌∙◌}
-use Rattle.netreview.specs.Command.{AnswerInput, present, promise_in}
+use Rattle.std.proofs.Common.{ℕ, None, ◌∙◌, rules}
+use Rattle.std.specs.Global.{Vec}
+use Rattle.std.proofs.lemmas.Result.{err_from_is_err_and}
+use Rattle.netreview.specs.Command.{AnswerInput, present, promise_in, audit_by}
 use Rattle.netreview.proofs.UnreadLemmas.{reads_more, behind_promise, behind_answer, asks_more, asks_next, asks_behind_answer}
+use Rattle.netreview.proofs.ShownLemmas.{audit_given, audit_from_auths, audit_of_auths, stopped_by}
 use Rattle.netreview.proofs.audit.audit.Goals as goal
 
 pub returns-in_err-answer_bytes-clause-unread : goal.returns-in_err-answer_bytes-clause-unread
@@ -61,3 +64,39 @@ returns-clause-unasked g c = λ held told.
     let now = c.read_promise.ensures.same ∙ told in
     asks_next (promise_in held c.args.request.now.promise.now) _ _ _ _ _ _ (c.in_ok-promise.ensures.value held told) c.read_promise.ensures.unasked
     (asks_behind_answer held _ _ _ _ _ _ _ _ (c.in_ok-answer_bytes.ensures.value held now) c.deref.ensures.value c.in_ok-answer.ensures c.read_input.ensures.unasked c.read_input-2.ensures.unasked)
+
+pub returns-in_err-answer_bytes-clause-shows : goal.returns-in_err-answer_bytes-clause-shows
+unfolding audit_by
+returns-in_err-answer_bytes-clause-shows g c = (c.in_ok-promise.ensures.shows.0, c.in_err-answer_bytes.ensures.shows.0, None, search rules)
+
+pub returns-in_err-answer-clause-shows : goal.returns-in_err-answer-clause-shows
+unfolding audit_by
+returns-in_err-answer-clause-shows g c = (c.in_ok-promise.ensures.shows.0, c.in_ok-answer_bytes.ensures.shows.0, None, search rules)
+
+pub returns-in_err-auths_bytes-clause-shows : goal.returns-in_err-auths_bytes-clause-shows
+returns-in_err-auths_bytes-clause-shows g c =
+    let p = err_from_is_err_and c.from_residual-in_err-auths_bytes.result c.from_residual-in_err-auths_bytes.ensures.1 in (
+      c.in_ok-promise.ensures.shows.0,
+      c.in_ok-answer_bytes.ensures.shows.0,
+      c.in_err-auths_bytes.ensures.shows.0,
+      rw (p.1, p.2, audit_from_auths _ _ _ _ _ _ _ c.in_ok-promise.ensures.shows.1 c.in_ok-answer_bytes.ensures.shows.1 (rw c.deref.ensures.value at c.in_ok-answer.ensures))
+          (stopped_by (λ (bytes : Vec ℕ). bytes.items) c.in_err-auths_bytes.field-0.0 _ _ c.in_err-auths_bytes.ensures.shows.1),
+    )
+
+pub returns-in_err-auths-clause-shows : goal.returns-in_err-auths-clause-shows
+returns-in_err-auths-clause-shows g c = (
+  c.in_ok-promise.ensures.shows.0,
+  c.in_ok-answer_bytes.ensures.shows.0,
+  c.in_ok-auths_bytes.ensures.shows.0,
+  rw (audit_of_auths _ _ _ _ _ _ _ _ c.in_ok-promise.ensures.shows.1 c.in_ok-answer_bytes.ensures.shows.1 (rw c.deref.ensures.value at c.in_ok-answer.ensures)
+      c.in_ok-auths_bytes.ensures.shows.1) (search rules),
+)
+
+pub returns-clause-shows : goal.returns-clause-shows
+returns-clause-shows g c = (
+  c.in_ok-promise.ensures.shows.0,
+  c.in_ok-answer_bytes.ensures.shows.0,
+  c.in_ok-auths_bytes.ensures.shows.0,
+  rw (audit_given _ _ _ _ _ _ _ _ _ c.in_ok-promise.ensures.shows.1 c.in_ok-answer_bytes.ensures.shows.1 (rw c.deref.ensures.value at c.in_ok-answer.ensures)
+      c.in_ok-auths_bytes.ensures.shows.1 (rw c.deref-2.ensures.value at c.in_ok-auths.ensures)) (search rules),
+)
