@@ -33,6 +33,7 @@ pub fn perform<F: Files>(
         → OnOk result (Leaves held (output_of held (request_of request.now)) (F.holds files.new)) }
     ensures synced { OnOk result (AreSynced (F.is_pending files.new) (outputs_of (request_of request.now))) }
     ensures same { Unchanged result (F.holds files.new ≡ F.holds files.old) }
+    ensures same_pending { Unchanged result (F.is_pending files.new ≡ F.is_pending files.old) }
     ensures left { (held : Contents) → F.holds files.old ≡ Some held
         → MayLeave held (output_of held (request_of request.now)) (F.holds files.new) }
     ensures reading { outputs_of (request_of request.now) ≡ [] → F.holds files.new ≡ F.holds files.old }

@@ -106,6 +106,7 @@ pub fn keygen<F: Files>(
         → OnOk result (Leaves held (key_output request.now.key.now (keygen_of held (keygen_request_of request.now))) (F.holds files.new)) }
     ensures synced { OnOk result (F.is_pending files.new request.now.key.now ≡ false) }
     ensures same { Unchanged result (F.holds files.new ≡ F.holds files.old) }
+    ensures same_pending { Unchanged result (F.is_pending files.new ≡ F.is_pending files.old) }
     ensures left { (held : Contents) → F.holds files.old ≡ Some held
         → MayLeave held (key_output request.now.key.now (keygen_of held (keygen_request_of request.now))) (F.holds files.new) }
     ensures unwritten { (held : Contents) → F.holds files.old ≡ Some held → key_output request.now.key.now (keygen_of held (keygen_request_of request.now)) ≡ None

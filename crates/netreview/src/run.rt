@@ -65,6 +65,7 @@ fn run_request<F: Files, S: Sink>(
         → Leaves held (output_in held (Some (request_of request.now))) (F.holds files.new) }
     ensures synced { result ≡ 0 → AreSynced (F.is_pending files.new) (outputs_in (Some (request_of request.now))) }
     ensures same { result ≢ 0 → result ≢ 5 → result ≢ 6 → F.holds files.new ≡ F.holds files.old }
+    ensures same_pending { result ≢ 0 → result ≢ 5 → result ≢ 6 → F.is_pending files.new ≡ F.is_pending files.old }
     ensures left { (held : Contents) → F.holds files.old ≡ Some held
         → MayLeave held (output_in held (Some (request_of request.now))) (F.holds files.new) }
     ensures reading { outputs_in (Some (request_of request.now)) ≡ [] → F.holds files.new ≡ F.holds files.old }
@@ -126,9 +127,10 @@ pub fn run<F: Files, S: Sink>(alloc: Global, words: &[String], files: &mut F, ou
         → Leaves held (output_in held (request_in (map string_bytes words.now))) (F.holds files.new) }
     ensures synced { result ≡ 0 → AreSynced (F.is_pending files.new) (outputs_in (request_in (map string_bytes words.now))) }
 
-    // With any status but 0, 5 and 6 no file changes. With these the file that the
-    // command writes holds what writing it may leave, and no other file ever changes.
+    // With any status but 0, 5 and 6 no file changes, and none is synced. With these the file that the command writes
+    // holds what writing it may leave, and no other file ever changes.
     ensures same { result ≢ 0 → result ≢ 5 → result ≢ 6 → F.holds files.new ≡ F.holds files.old }
+    ensures same_pending { result ≢ 0 → result ≢ 5 → result ≢ 6 → F.is_pending files.new ≡ F.is_pending files.old }
     ensures left { (held : Contents) → F.holds files.old ≡ Some held
         → MayLeave held (output_in held (request_in (map string_bytes words.now))) (F.holds files.new) }
     ensures reading { outputs_in (request_in (map string_bytes words.now)) ≡ [] → F.holds files.new ≡ F.holds files.old }
