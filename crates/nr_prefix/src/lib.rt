@@ -6,4 +6,4 @@ mod set;
 mod text;
 
 pub use prefix::Prefix;
-pub use set::{Pattern, PrefixSet};
+pub use set::{Pattern, PrefixSet, contains};

@@ -1,13 +1,18 @@
 //! Prefixes.
 
-ghost use Rattle.std.specs.Prelude.{◌≡◌, ◌<◌, ◌≤◌, IfSome, is_some, nat_le};
+ghost use Rattle.std.specs.Prelude.{◌≡◌, ◌<◌, ◌≤◌, IfSome, is_some, nat_le, true};
+ghost use Rattle.std.specs.Cmp.{partial_order_from_own_ties};
+ghost use Rattle.std.specs.Cmp.Rules.{comparing};
+ghost use Rattle.std.specs.Ordering.{MatchOrdering, as_partial_cmp};
+ghost use Rattle.std.proofs.Common.{rules};
 ghost use Rattle.nr_spec_bgp.specs.Prefixes.{IsCidr, front, masked, covers, comes_before};
+ghost use Rattle.nr_prefix.specs.Order.{by_address};
 
+use std::cmp::Ordering;
 use std::marker::Model;
 
-/// An IPv4 address and how many of its bits count (RFC 4632, section 3.1). The bits behind the length are
-/// 0. The order is by address, then by length.
-#[derive(Clone, Copy, Debug, PartialEq, Eq, PartialOrd, Ord)]
+/// An IPv4 address and how many of its bits count (RFC 4632, section 3.1). The bits after the length are 0.
+#[derive(Clone, Copy, Debug, PartialEq, Eq)]
 pub struct Prefix {
     addr: u32,
     len: u8,
@@ -84,11 +89,33 @@ impl Prefix {
     {
         self.len <= other.len && front(other.addr, self.len) == front(self.addr, self.len)
     }
+}
 
-    /// Whether this one comes first in the order.
-    pub fn comes_before(&self, other: &Prefix) -> bool
-        ensures { result ≡ comes_before self.now other.now }
+/// By address, then by length.
+impl Ord for Prefix {
+    ghost cmp = { by_address };
+
+    ghost total = { Prim.search (comparing, rules) };
+
+    ghost matches_partial_cmp = { Prim.search (comparing, rules) };
+
+    ghost matches_eq = { Prim.search (comparing, rules) };
+
+    fn cmp(&self, other: &Prefix) -> Ordering
+        ensures value { result ≡ by_address self.now other.now }
+        ensures order { MatchOrdering result (comes_before self.now other.now ≡ true) (self.now ≡ other.now)
+            (comes_before other.now self.now ≡ true) }
     {
-        self < other
+        self.addr.cmp(&other.addr).then(self.len.cmp(&other.len))
+    }
+}
+
+impl PartialOrd for Prefix {
+    ghost partial_cmp = { as_partial_cmp by_address };
+
+    ghost laws = { partial_order_from_own_ties (Prim.search (comparing, rules)) (Prim.search (comparing, rules)) };
+
+    fn partial_cmp(&self, other: &Prefix) -> Option<Ordering> {
+        Some(self.cmp(other))
     }
 }
