@@ -1,0 +1,4 @@
+pub mod KeyOrder
+pub mod Words
+pub mod RowsOnce
+pub mod Once

@@ -1,0 +1,6 @@
+pub mod LookBack
+pub mod Keys
+pub mod Effects
+pub mod Routes
+pub mod Rows
+pub mod Touched
