@@ -1,0 +1,11 @@
+//! The contents of entries: SEND, RECV, STATE, ACK, COMMIT, CHECKPOINT and PROMISE. Reading takes no memory and copies
+//! no message.
+#![tactic(auto)]
+
+mod content;
+mod reading;
+mod writing;
+
+pub use content::Content;
+pub use reading::read;
+pub use writing::write;
