@@ -17,5 +17,6 @@ pub struct Auth<'a> {
     pub hash: Digest,
     pub sig: Sig<'a>,
     pub whole: &'a [u8],
-    ghost spelled: { whole.now ≡ authenticator (record { asn = asn; seq = seq; time = time; hash = hash.0; sig = signature_of sig }) },
+    ghost spelled: { whole.now
+        ≡ authenticator (record { asn = asn; seq = seq; time = time; hash = hash.0; sig = signature_of sig }) },
 }

@@ -1,5 +1,5 @@
--- Numbers one behind another.
-use Rattle.std.proofs.Common.{◌≡◌, ℕ, zero, suc, ◌-◌, ◌/◌, ◌≤◌, ◌<◌, Bool, true, false, List, [], ◌∷◌, length, drop, refl, ap, arith, length-drop}
+-- Numbers one after another.
+use Rattle.std.proofs.Common.{◌≡◌, ℕ, zero, suc, ◌-◌, ◌/◌, ◌≤◌, ◌<◌, Bool, true, false, List, [], ◌∷◌, length, drop, refl, arith, length-drop}
 use Rattle.byteorder.specs.Endian.{big_number}
 use Rattle.nr_spec_bgp.specs.Paths.{as_size, counted_numbers, numbers_in, last_number}
 
@@ -31,10 +31,3 @@ last_or_of_some before n (m ∷ numbers) = last_or_of_some n m numbers
 pub last_or_zero : (numbers : List ℕ) → last_or 0 numbers ≡ last_number numbers
 last_or_zero [] = refl
 last_or_zero (n ∷ numbers) = last_or_of_some 0 n numbers
-
-length_counted : (n size : ℕ) (bytes : List ℕ) → length (counted_numbers n size bytes) ≡ n
-length_counted zero size bytes = refl
-length_counted (suc n) size bytes = ap suc (length_counted n size (drop size bytes))
-
-pub length_numbers : (size : ℕ) (bytes : List ℕ) → length (numbers_in size bytes) ≡ length bytes / size
-length_numbers size bytes = length_counted (length bytes / size) size bytes

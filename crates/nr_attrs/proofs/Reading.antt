@@ -1,4 +1,4 @@
--- Reading attributes one behind another, as the loop does.
+-- Reading attributes one after another, as the loop does.
 use Rattle.std.proofs.Common.{◌≡◌, ℕ, ◌≤◌, ◌<◌, ◌^◌, Bool, List, [], ◌∷◌, ◌++◌, length, Option, Some, None, Result, Ok, Err, refl, sym, ap, ◌∙◌, ◌-◌, arith}
 use Rattle.std.specs.Result.{result_unwrap_or}
 use Rattle.std.proofs.lemmas.List.{take_all}
@@ -10,7 +10,7 @@ use Rattle.nr_attrs.specs.First.{FirstValues, none_yet, seen_after, StandsFor, I
 use Rattle.nr_attrs.specs.Reading.{AreFirstOf, list_in}
 use Rattle.nr_attrs.proofs.Seeing.{Step, see_one, none_stands, none_in_range}
 
--- so far: the values are those of some attributes, behind which the rest reads as all do
+-- so far: the values are those of some attributes, after which the rest reads as all do
 pub record SoFar (as4 : Bool) (v : FirstValues) (s : Spot) (all : Result (List Attribute) ℕ) : Type 0 where
   pub before : List Attribute
   pub stands : StandsFor v before

@@ -18,7 +18,8 @@ abbrev pub first_after : Bool → Option (List ℕ) → List ℕ → Option (Opt
 first_after fine None value = if fine then Some (Some value) else None
 first_after fine (Some old) value = Some (Some old)
 
-abbrev pub put : (FirstValues → Option (List ℕ) → FirstValues) → FirstValues → Option (Option (List ℕ)) → Option FirstValues
+abbrev pub put : (FirstValues → Option (List ℕ) → FirstValues)
+    → FirstValues → Option (Option (List ℕ)) → Option FirstValues
 put set v None = None
 put set v (Some w) = Some (set v w)
 

@@ -1,4 +1,4 @@
-//! Attributes one behind another.
+//! Attributes one after another.
 
 ghost use Rattle.std.specs.Prelude.{◌<◌, ◌^◌, length, IfOk};
 ghost use Rattle.nr_bytes.specs.Views.{offset_of};

@@ -1,4 +1,4 @@
-//! Numbers one behind another: those of a segment, and communities.
+//! Numbers one after another: those of a segment, and communities.
 
 ghost use Rattle.std.specs.Prelude.{◌≡◌, ◌<◌, ◌==◌, [], ◌∷◌, IfSome, IfNone, length};
 ghost use Rattle.std.specs.List.{list_any};
@@ -42,7 +42,7 @@ fn front(wide: bool, bytes: &[u8]) -> u32
     }
 }
 
-// The first number and the bytes behind it.
+// The first number and the bytes after it.
 #[tactic(auto, using(crate::proofs::NumberWalk::numbers_step, crate::proofs::NumberWalk::numbers_end))]
 fn split(wide: bool, bytes: &[u8]) -> Option<(u32, &[u8])>
     ensures none { IfNone result (numbers_in (as_size wide) bytes.now ≡ []) }
@@ -63,7 +63,7 @@ impl<'a> Numbers<'a> {
     }
 
     /// How many there are.
-    #[tactic(auto, using(crate::proofs::NumberWalk::length_numbers))]
+    #[tactic(auto, using(nr_spec_bgp::proofs::Short::length_numbers))]
     pub fn len(self) -> usize
         ensures { result ≡ length self.entry }
     {

@@ -1,30 +1,14 @@
--- Prefixes one behind another.
+-- Prefixes one after another.
 use Rattle.std.proofs.Common.{◌≡◌, ◌≢◌, ℕ, ◌≤◌, ◌<◌, leb, List, [], ◌∷◌, length, Some, None, Result, Ok, Err, refl, ◌∙◌, arith}
 use Rattle.std.specs.Result.{result_unwrap_or}
-use Rattle.nr_spec_wire.specs.Reading.{Spot, ◌>>=◌, number_at, bytes_at, wants}
-use Rattle.nr_spec_bgp.specs.Prefixes.{Cidr, masked, address_of, bytes_for, faults_at, cidr_at}
+use Rattle.nr_spec_wire.specs.Reading.{Spot, ◌>>=◌, fault}
+use Rattle.nr_spec_bgp.specs.Prefixes.{Cidr, cidr_at}
 use Rattle.nr_spec_bgp.specs.Messages.{cidrs_at}
-use Rattle.nr_spec_bgp.proofs.Steps.{bind_ok, ok_is, faults_ok, number_leaves, bytes_leaves}
-use Rattle.nr_spec_bgp.proofs.Walks.{Eats, all_step, all_end}
-use Rattle.nr_bgp.specs.Left.{cidrs_from, fault}
-
-pub cidr_eats : Eats cidr_at
-unfolding cidr_at
-cidr_eats s x e =
-    let a = bind_ok (number_at 1 s) _ x e in
-    let b = bind_ok (wants (leb a.0.0 32) s.at a.0.0) _ x a.2 in
-    let c = bind_ok (faults_at s.at (bytes_at (bytes_for b.0) a.0.1)) _ x b.2 in
-    let out = ok_is (masked (address_of c.0.0) b.0, c.0.1) x c.2 in
-    rw (← out) (omega (arith, number_leaves 1 s a.0 a.1, bytes_leaves (bytes_for b.0) a.0.1 c.0 (faults_ok s.at _ c.0 c.1)))
+use Rattle.nr_spec_bgp.proofs.Walks.{cidr_eats, goes_on, all_of, all_step, all_end}
+use Rattle.nr_bgp.specs.Left.{cidrs_from}
 
 pub cidr_shorter : (s : Spot) (x : Cidr) (t : Spot) → cidr_at s ≡ Ok (x, t) → length t.rest < length s.rest
 cidr_shorter s x t e = cidr_eats s (x, t) e
-
-abbrev pub goes_on : Cidr → Result (List Cidr) ℕ → Result (List Cidr) ℕ
-goes_on first others = others >>= λ o. Ok (first ∷ o)
-
-pub all_of : (s : Spot) (x : Cidr) (t : Spot) → 0 < length s.rest → cidr_at s ≡ Ok (x, t) → cidrs_at s ≡ goes_on x (cidrs_at t)
-all_of s x t some e = all_step cidr_at cidr_eats s (omega arith) ∙ rw e refl
 
 none_of : (s : Spot) (place : ℕ) → 0 < length s.rest → cidr_at s ≡ Err place → cidrs_at s ≡ Err place
 none_of s place some e = all_step cidr_at cidr_eats s (omega arith) ∙ rw e refl

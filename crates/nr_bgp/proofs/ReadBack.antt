@@ -12,11 +12,10 @@ use Rattle.byteorder.specs.Endian.{big_bytes}
 use Rattle.nr_spec_wire.specs.Reading.{Spot, Read, start_of, number_at, bytes_at, part_at, wants}
 use Rattle.nr_spec_bgp.specs.Attributes.{Attribute, AttributeBlock, attributes_in, block_at, is_complete}
 use Rattle.nr_spec_bgp.specs.Messages.{Updates, KeepsAlive, cidrs_at, cidrs_bytes, sized, sized_part_at, update_at, update_body, update_bytes, keepalive_bytes, message_bytes, body_at, message_at, message_of}
-use Rattle.nr_spec_bgp.proofs.Walks.{all_end}
+use Rattle.nr_spec_bgp.proofs.Walks.{all_end, goes_on, all_of}
 use Rattle.nr_spec_bgp.proofs.Back.{spot, then_back, number_back, byte_back, bytes_back, part_back, wants_back}
 use Rattle.nr_spec_bgp.proofs.Alike.{same_block}
 use Rattle.nr_bgp.specs.Writing.{ReadsBack}
-use Rattle.nr_bgp.proofs.PrefixWalk.{goes_on, all_of}
 use Rattle.nr_bgp.proofs.Lengths.{length_message, length_update}
 
 pub sized_back : (at : ℕ) (xs more : List ℕ) → length xs < 256 ^ 2 → sized_part_at (spot at (sized xs ++ more)) ≡ Ok (spot (at + 2) xs, spot (at + 2 + length xs) more)

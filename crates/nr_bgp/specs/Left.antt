@@ -1,5 +1,5 @@
 -- What is left of a list of prefixes, from a spot in its bytes.
-use Rattle.std.specs.Prelude.{ℕ, List, [], Option, Some, None, Result, Ok, Err}
+use Rattle.std.specs.Prelude.{List, []}
 use Rattle.std.specs.Result.{result_unwrap_or}
 use Rattle.nr_spec_wire.specs.Reading.{Spot}
 use Rattle.nr_spec_bgp.specs.Prefixes.{Cidr}
@@ -7,8 +7,3 @@ use Rattle.nr_spec_bgp.specs.Messages.{cidrs_at}
 
 abbrev pub cidrs_from : Spot → List Cidr
 cidrs_from s = result_unwrap_or (cidrs_at s) []
-
--- the place of the fault of a reading
-abbrev pub fault : {A : Type 0} → Result A ℕ → Option ℕ
-fault (Ok x) = None
-fault (Err place) = Some place

@@ -20,5 +20,10 @@ IsMemory Memory = ⊤
 -- in its grammar, and complete where something is announced.
 abbrev pub ReadsBack : List Cidr → List ℕ → List Cidr → List ℕ → Type 0
 ReadsBack withdrawn block announced bytes =
-    (as4 : Bool) (list : List Attribute) → attributes_in as4 block ≡ Ok list → (length announced ≡ 0) ⊎ (is_complete list ≡ true)
-    → message_of as4 bytes ≡ Ok (Updates (record { withdrawn = withdrawn; attributes = record { block = block; as4 = as4; list = list }; announced = announced }))
+    (as4 : Bool) (list : List Attribute) → attributes_in as4 block ≡ Ok list
+    → (length announced ≡ 0) ⊎ (is_complete list ≡ true)
+    → message_of as4 bytes ≡ Ok (Updates (record {
+      withdrawn = withdrawn;
+      attributes = record { block = block; as4 = as4; list = list };
+      announced = announced;
+    }))

@@ -2,6 +2,7 @@
 //! written. Reading copies nothing and allocates nothing.
 #![tactic(auto)]
 
+mod kind;
 mod message;
 mod prefixes;
 mod update;

@@ -7,6 +7,7 @@ ghost use Rattle.nr_spec_bgp.specs.Messages.{is_marker, open_at, body_at, messag
 ghost use Rattle.nr_spec_bgp.specs.Messages.{Opens};
 ghost use Rattle.nr_bgp.specs.Views.{meaning, Tells};
 
+use crate::kind::{KEEPALIVE, NOTIFICATION, OPEN, ROUTE_REFRESH, UPDATE};
 use crate::update::{Update, read_update};
 use nr_bytes::{Cursor, Place};
 
@@ -26,16 +27,6 @@ pub enum Message<'a> {
     /// No message: the place of the first malformed field.
     Bad(Place),
 }
-
-const OPEN: u8 = 1;
-
-const UPDATE: u8 = 2;
-
-const NOTIFICATION: u8 = 3;
-
-const KEEPALIVE: u8 = 4;
-
-const ROUTE_REFRESH: u8 = 5;
 
 fn is_marker(bytes: &[u8]) -> bool
     ensures { result ≡ is_marker bytes.now }
@@ -58,7 +49,7 @@ fn read_open(body: Cursor, size: u16) -> Result<(), Place>
     Ok(())
 }
 
-// The message of a type, behind its header.
+// The message of a type, after its header.
 #[tactic(auto, unfolding(nr_spec_bgp::specs::Messages::body_at))]
 fn read_body<'a>(
     body: Cursor<'a>,

@@ -1,12 +1,12 @@
-//! Prefixes one behind another, as a message has them.
+//! Prefixes one after another, as a message has them.
 
 ghost use Rattle.std.specs.Prelude.{◌≡◌, ◌≤◌, ◌<◌, [], ◌∷◌, length, None, Some, OnOk, IfErr, IfSome, IfNone};
 ghost use Rattle.std.specs.Iterator.{YieldsFirst, item_count};
 ghost use Rattle.nr_bytes.specs.Views.{offset_of};
-ghost use Rattle.nr_spec_wire.specs.Reading.{Reads, Answers, IsOnward, bytes_at};
+ghost use Rattle.nr_spec_wire.specs.Reading.{Reads, Answers, IsOnward, bytes_at, fault};
 ghost use Rattle.nr_spec_bgp.specs.Prefixes.{faults_at, bytes_for, address_of, cidr_at};
 ghost use Rattle.nr_spec_bgp.specs.Messages.{cidrs_at};
-ghost use Rattle.nr_bgp.specs.Left.{cidrs_from, fault};
+ghost use Rattle.nr_bgp.specs.Left.{cidrs_from};
 
 use byteorder::{BigEndian, ByteOrder};
 use nr_bytes::{Cursor, Place};
@@ -29,7 +29,8 @@ fn address(bytes: &[u8]) -> u32
 
 // The bytes of a prefix, where a fault counts at its length.
 fn take_bytes<'a>(cursor: &mut Cursor<'a>, len: u8, at: u64) -> Result<&'a [u8], Place>
-    ensures value { Reads (λ bytes. bytes.now) offset_of result cursor.new (faults_at at (bytes_at (bytes_for len) cursor.old)) }
+    ensures value { Reads (λ bytes. bytes.now) offset_of result cursor.new
+        (faults_at at (bytes_at (bytes_for len) cursor.old)) }
     ensures onward { IsOnward cursor.old cursor.new }
 {
     match cursor.take((u32::from(len) + 7) / 8) {
@@ -106,7 +107,8 @@ impl<'a> Model for Prefixes<'a> {
     ghost use Rattle.std.specs.Prelude.{◌≡◌, List, None};
     ghost use Rattle.nr_spec_bgp.specs.Prefixes.{Cidr};
     ghost use Rattle.nr_spec_bgp.specs.Messages.{cidrs_at};
-    ghost use Rattle.nr_bgp.specs.Left.{cidrs_from, fault};
+    ghost use Rattle.nr_spec_wire.specs.Reading.{fault};
+    ghost use Rattle.nr_bgp.specs.Left.{cidrs_from};
 
     ghost Value = { List Cidr };
 

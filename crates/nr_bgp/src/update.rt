@@ -22,7 +22,7 @@ fn take_part<'a>(cursor: &mut Cursor<'a>, size: u16, at: u64) -> Result<Cursor<'
     }
 }
 
-// A part behind its length.
+// A part after its length.
 fn read_part<'a>(cursor: &mut Cursor<'a>) -> Result<Cursor<'a>, Place>
     ensures value { Reads (λ part. part) offset_of result cursor.new (sized_part_at cursor.old) }
     ensures onward { IsOnward cursor.old cursor.new }

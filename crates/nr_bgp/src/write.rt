@@ -6,6 +6,7 @@ ghost use Rattle.nr_spec_bgp.specs.Prefixes.{IsCidr, cidr_bytes};
 ghost use Rattle.nr_spec_bgp.specs.Messages.{cidrs_bytes, sized, update_body, update_bytes, keepalive_bytes, message_of, KeepsAlive};
 ghost use Rattle.nr_bgp.specs.Writing.{SaysTooLong, IsMemory, ReadsBack};
 
+use crate::kind::{KEEPALIVE, UPDATE};
 use nr_bytes::{Memory, put_bytes, put_u8, put_u16};
 use nr_prefix::Prefix;
 use std::alloc::Global;
@@ -63,10 +64,6 @@ fn put_prefixes(out: &mut Vec<u8>, prefixes: &[Prefix]) -> Result<(), Memory>
 
 const MARKER: [u8; 16] = [0xff; 16];
 
-const UPDATE: u8 = 2;
-
-const KEEPALIVE: u8 = 4;
-
 const LONGEST: u128 = 65_535;
 
 // The header of a message.
@@ -78,7 +75,7 @@ fn put_header(out: &mut Vec<u8>, len: u16, kind: u8) -> Result<(), Memory>
     put_u8(out, kind)
 }
 
-// Bytes behind their length.
+// Bytes after their length.
 fn put_sized(out: &mut Vec<u8>, bytes: &[u8]) -> Result<(), Memory>
     requires { length bytes.now < 2 ^ 16 }
     ensures { OnOk result (out.new.items ≡ out.old.items ++ sized bytes.now) }
@@ -87,7 +84,7 @@ fn put_sized(out: &mut Vec<u8>, bytes: &[u8]) -> Result<(), Memory>
     put_bytes(out, bytes)
 }
 
-// Prefixes behind the length of their bytes.
+// Prefixes after the length of their bytes.
 fn put_sized_prefixes(out: &mut Vec<u8>, prefixes: &[Prefix]) -> Result<(), Memory>
     requires { length (cidrs_bytes prefixes.now) < 2 ^ 16 }
     ensures { OnOk result (out.new.items ≡ out.old.items ++ sized (cidrs_bytes prefixes.now)) }
@@ -118,7 +115,8 @@ fn update_len(withdrawn: &[Prefix], block: &[u8], announced: &[Prefix]) -> u128
     ensures value { result ≡ length (update_bytes withdrawn.now block.now announced.now) }
     ensures withdrawn { All IsCidr withdrawn.now }
     ensures announced { All IsCidr announced.now }
-    ensures parts { result ≡ 23 + length (cidrs_bytes withdrawn.now) + length block.now + length (cidrs_bytes announced.now) }
+    ensures parts { result ≡ 23 + length (cidrs_bytes withdrawn.now) + length block.now
+        + length (cidrs_bytes announced.now) }
 {
     23 + len_of(withdrawn) + block.len() as u128 + len_of(announced)
 }
@@ -133,7 +131,8 @@ fn spell_update(
     len: u16,
 ) -> Result<Vec<u8>, Memory>
     requires whole { len ≡ length (update_bytes withdrawn.now block.now announced.now) }
-    requires parts { len ≡ 23 + length (cidrs_bytes withdrawn.now) + length block.now + length (cidrs_bytes announced.now) }
+    requires parts { len ≡ 23 + length (cidrs_bytes withdrawn.now) + length block.now
+        + length (cidrs_bytes announced.now) }
     ensures { IfOk result (λ v. v.items ≡ update_bytes withdrawn.now block.now announced.now) }
 {
     let mut out = Vec::new(alloc);

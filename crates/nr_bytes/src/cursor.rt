@@ -8,7 +8,7 @@ use crate::fault::Short;
 use byteorder::{BigEndian, ByteOrder};
 use std::marker::Model;
 
-/// A place in a file, from which fields are read one behind another. Offsets count bytes from the start
+/// A place in a file, from which fields are read one after another. Offsets count bytes from the start
 /// of the file. Reading copies nothing and allocates nothing.
 #[derive(Drop)]
 pub struct Cursor<'a> {
@@ -27,7 +27,7 @@ impl<'a> Model for Cursor<'a> {
     ghost invariant = { λ c. c.at + length c.rest.now < 2 ^ 64 };
 }
 
-// The same slice. A value behind a field has its range where it is passed on.
+// The same slice. A value after a field has its range where it is passed on.
 fn bytes_in<'a>(bytes: &'a [u8]) -> &'a [u8]
     ensures same { result.now ≡ bytes.now }
     ensures bytes { IsBytes bytes.now }
@@ -76,7 +76,7 @@ impl<'a> Cursor<'a> {
         &start.rest[..start.rest.len() - self.rest.len()]
     }
 
-    // The next bytes, and the cursor behind them.
+    // The next bytes, and the cursor after them.
     fn split(&mut self, n: usize) -> Result<&'a [u8], Short>
         ensures value { Gives (λ piece. piece.now) short_at result self.old self.new (bytes_at n self.old) }
         ensures length { IfOk result (λ piece. length piece.now ≡ n) }

@@ -1,4 +1,4 @@
-//! Digests: of bytes, before the first entry, and of one entry behind another.
+//! Digests: of bytes, before the first entry, and of one entry after another.
 
 ghost use Rattle.std.specs.Prelude.{◌≡◌};
 ghost use Rattle.sha2.specs.Sha256.{sha256};

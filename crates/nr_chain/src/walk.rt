@@ -24,7 +24,7 @@ impl Model for Walk {
 }
 
 impl Walk {
-    /// Begins behind a value, with the number of the next entry.
+    /// Begins after a value, with the number of the next entry.
     pub fn new(prev: Digest, first: u64) -> Walk
         ensures { result ≡ record { value = prev.0; seq = first } }
     {

@@ -12,7 +12,8 @@ use sha2::{Digest as Hasher, Sha256};
 
 // Takes in the public digests of a pair.
 fn publish_pair(hasher: &mut Sha256, pair: &Pair)
-    ensures { (m : List ℕ) → Holds256 hasher.old m → Holds256 hasher.new (m ++ (sha256 pair.now.zero ++ sha256 pair.now.one)) }
+    ensures { (m : List ℕ) → Holds256 hasher.old m
+        → Holds256 hasher.new (m ++ (sha256 pair.now.zero ++ sha256 pair.now.one)) }
 {
     hasher.update(&sha256(&pair.zero).0);
     hasher.update(&sha256(&pair.one).0);

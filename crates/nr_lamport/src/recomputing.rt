@@ -13,7 +13,8 @@ use sha2::{Digest as Hasher, Sha256};
 
 // Takes in the public digests of a pair: that of the secret shown for a bit, and the one shown beside it.
 fn recompute_pair(hasher: &mut Sha256, bit: u8, secret: &[u8], public: &[u8])
-    ensures { (m : List ℕ) → Holds256 hasher.old m → Holds256 hasher.new (m ++ beside bit (sha256 secret.now) public.now) }
+    ensures { (m : List ℕ) → Holds256 hasher.old m
+        → Holds256 hasher.new (m ++ beside bit (sha256 secret.now) public.now) }
 {
     let digest = sha256(secret);
     if bit == 0 {

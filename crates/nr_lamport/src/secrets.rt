@@ -1,4 +1,4 @@
-//! The secrets of a leaf, read in order. They stand one behind another in the leaf's stream: looking each up
+//! The secrets of a leaf, read in order. They stand one after another in the leaf's stream: looking each up
 //! by its place would cost far more than the words themselves.
 
 ghost use Rattle.std.specs.Prelude.{◌≡◌, ◌+◌, ◌<◌, ◌^◌};

@@ -12,7 +12,8 @@ use nr_chain::{Digest, sha256};
 
 // Appends what is shown of a pair: the secret of a bit, and the public digest of the other.
 fn put_pair(pair: &Pair, bit: u8, out: &mut Vec<u8>) -> Result<(), Memory>
-    ensures ok { OnOk result (out.new.items ≡ out.old.items ++ (if bit == 0 then pair.now.zero ++ sha256 pair.now.one else pair.now.one ++ sha256 pair.now.zero)) }
+    ensures ok { OnOk result (out.new.items ≡ out.old.items
+        ++ (if bit == 0 then pair.now.zero ++ sha256 pair.now.one else pair.now.one ++ sha256 pair.now.zero)) }
     ensures memory { OnErr result (take (length out.old.items) out.new.items ≡ out.old.items) }
 {
     let (shown, hidden) = if bit == 0 {
@@ -24,7 +25,7 @@ fn put_pair(pair: &Pair, bit: u8, out: &mut Vec<u8>) -> Result<(), Memory>
     put_bytes(out, &sha256(hidden).0)
 }
 
-// Appends the pairs. After `Memory` some of them may stand behind what was there.
+// Appends the pairs. After `Memory` some of them may stand after what was there.
 fn put_pairs(seed: &Seed, leaf: u32, digest: &Digest, out: &mut Vec<u8>) -> Result<(), Memory>
     ensures ok { OnOk result (out.new.items ≡ out.old.items ++ pairs_of seed.now.0 leaf digest.now.0) }
     ensures memory { OnErr result (take (length out.old.items) out.new.items ≡ out.old.items) }
@@ -43,7 +44,8 @@ fn put_pairs(seed: &Seed, leaf: u32, digest: &Digest, out: &mut Vec<u8>) -> Resu
 pub fn sign(seed: &Seed, leaf: u32, digest: &Digest, out: &mut Vec<u8>) -> Result<(), Memory>
     ensures ok { OnOk result (out.new.items ≡ out.old.items ++ pairs_of seed.now.0 leaf digest.now.0) }
     // What is recomputed from them is the public leaf.
-    ensures recomputed { OnOk result (leaf_from (drop (length out.old.items) out.new.items) digest.now.0 ≡ public_leaf_of seed.now.0 leaf) }
+    ensures recomputed { OnOk result
+        (leaf_from (drop (length out.old.items) out.new.items) digest.now.0 ≡ public_leaf_of seed.now.0 leaf) }
     ensures memory { OnErr result (out.new.items ≡ out.old.items) }
 {
     let before = out.len();

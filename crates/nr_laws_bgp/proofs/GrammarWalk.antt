@@ -2,14 +2,13 @@
 use Rattle.std.proofs.Common.{◌≡◌, ◌≢◌, ℕ, zero, suc, ◌+◌, ◌≤◌, ◌<◌, Bool, true, false, cond, eqb, leb, List, [], ◌∷◌, ◌++◌, length, Result, Ok, refl, sym, ap, subst, ◌∙◌, arith, append_assoc}
 use Rattle.std.proofs.lemmas.Bool.{le-leb, leb-true, eqb-true}
 use Rattle.std.proofs.lemmas.List.{append-nil}
-use Rattle.nr_spec_wire.specs.Reading.{Spot, Read, ◌>>=◌, number_at, bytes_at, wants, values_at}
+use Rattle.nr_spec_wire.specs.Reading.{Spot, Read, ◌>>=◌, number_at, bytes_at, wants}
 use Rattle.nr_spec_bgp.specs.Prefixes.{Cidr, masked, address_of, bytes_for, faults_at, cidr_at}
 use Rattle.nr_spec_bgp.specs.Attributes.{Attribute, Placed, size_bytes, fields_at, attribute_at, may_follow, attributes_from, attributes_at}
 use Rattle.nr_spec_bgp.specs.Messages.{cidrs_at}
 use Rattle.nr_spec_bgp.proofs.Steps.{bind_ok, ok_is, wants_ok, faults_ok}
 use Rattle.nr_spec_bgp.proofs.Back.{spot, then_back, byte_back, bytes_back, wants_back}
-use Rattle.nr_spec_bgp.proofs.Walks.{all_end, attribute_eats, going_on, attributes_behind, attributes_step, attributes_end}
-use Rattle.nr_bgp.proofs.PrefixWalk.{cidr_eats, goes_on, all_of}
+use Rattle.nr_spec_bgp.proofs.Walks.{all_end, cidr_eats, goes_on, all_of, each_value, attribute_eats, going_on, attributes_behind, attributes_step, attributes_end}
 use Rattle.nr_laws_bgp.specs.Grammar.{IsCidrIn, AreCidrs, IsAttributeIn, AreAttributes}
 use Rattle.nr_laws_bgp.proofs.Pieces.{number_found, number_again, byte_found, bytes_found}
 
@@ -52,24 +51,10 @@ cidr_again bytes p more h at =
     (then_back (faults_at at (bytes_at n (spot (at + 1) (h.piece ++ more)))) _ (h.piece, spot there more) _ (ap (λ (r : Read (List ℕ)). faults_at at r) (bytes_back n (at + 1) h.piece more h.whole)) refl)) in
     (there, ap (λ (b : List ℕ). cidr_at (spot at b)) h.spelled ∙ read ∙ ap (λ (q : Cidr). let r : Read Cidr = Ok (q, spot there more) in r) (sym h.value))
 
-cidrs_step_found : (s : Spot) (b : Bool) (list : List Cidr) (item : Read Cidr) (others : Spot → Result (List Cidr) ℕ) → (b ≡ true → s.rest ≡ [])
-    → ((x : Cidr × Spot) → item ≡ Ok x → IsCidrIn s.rest x.0 x.1.rest) → ((x : Cidr × Spot) (l : List Cidr) → item ≡ Ok x → others x.1 ≡ Ok l → AreCidrs x.1.rest l)
-    → cond b (Ok []) (item >>= λ first. others first.1 >>= λ o. Ok (first.0 ∷ o)) ≡ Ok list → AreCidrs s.rest list
-cidrs_step_found s true list item others none one more e = let same : [] ≡ list = ok_is [] list e in subst (AreCidrs s.rest) same (none refl)
-cidrs_step_found s false list item others none one more e =
-    let first = bind_ok item (λ f. others f.1 >>= λ o. Ok (f.0 ∷ o)) list e in
-    let rest = bind_ok (others first.0.1) (λ o. Ok (first.0.0 ∷ o)) list first.2 in
-    subst (AreCidrs s.rest) (ok_is (first.0.0 ∷ rest.0) list rest.2) (first.0.1.rest, one first.0 first.1, more first.0 rest.0 first.1 rest.1)
-
-cidrs_found_from : (n : ℕ) (s : Spot) (list : List Cidr) → length s.rest ≤ n → values_at cidr_at n s ≡ Ok list → AreCidrs s.rest list
-unfolding values_at
-cidrs_found_from zero s list few e = let same : [] ≡ list = ok_is [] list e in subst (AreCidrs s.rest) same (none_left s.rest (omega arith))
-cidrs_found_from (suc n) s list few e =
-    cidrs_step_found s (eqb (length s.rest) 0) list (cidr_at s) (values_at cidr_at n) (λ t. none_left s.rest (eqb-true (length s.rest) 0 t)) (cidr_found s)
-    (λ x l is read. cidrs_found_from n x.1 l (omega (arith, cidr_eats s x is)) read) e
-
 pub cidrs_found : (s : Spot) (list : List Cidr) → cidrs_at s ≡ Ok list → AreCidrs s.rest list
-cidrs_found s list e = cidrs_found_from (length s.rest) s list (omega arith) e
+cidrs_found s list e =
+    each_value cidr_at cidr_eats (λ t l. AreCidrs t.rest l) (λ t none. none_left t.rest none)
+    (λ t x rest is there. (x.1.rest, cidr_found t x is, there)) s list e
 
 cidr_some : (bytes : List ℕ) (p : Cidr) (more : List ℕ) → IsCidrIn bytes p more → 0 < length bytes
 cidr_some bytes p more h = let e = ap length h.spelled in omega arith

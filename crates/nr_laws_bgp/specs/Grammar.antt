@@ -13,7 +13,7 @@ pub record Holds (size n : ℕ) (field : List ℕ) : Type 0 where
 
 -- ---- prefixes
 
--- a prefix in front of the bytes, and what stands behind it
+-- a prefix in front of the bytes, and what stands after it
 pub record IsCidrIn (bytes : List ℕ) (p : Cidr) (more : List ℕ) : Type 0 where
   pub len : ℕ
   pub piece : List ℕ
@@ -22,7 +22,7 @@ pub record IsCidrIn (bytes : List ℕ) (p : Cidr) (more : List ℕ) : Type 0 whe
   pub whole : length piece ≡ bytes_for len
   pub value : p ≡ masked (address_of piece) len
 
--- prefixes one behind another, and nothing else
+-- prefixes one after another, and nothing else
 abbrev pub AreCidrs : List ℕ → List Cidr → Type 0
 AreCidrs bytes [] = bytes ≡ []
 AreCidrs bytes (p ∷ cidrs) = (more : List ℕ) × IsCidrIn bytes p more × AreCidrs more cidrs
@@ -36,10 +36,12 @@ pub record IsAttributeIn (bytes : List ℕ) (a : Attribute) (more : List ℕ) : 
   pub spelled : bytes ≡ flags ∷ a.kind ∷ (size ++ (a.value ++ more))
   pub sized : Holds (size_bytes flags) (length a.value) size
 
--- attributes one behind another, and nothing else, each of which may follow those before
+-- attributes one after another, and nothing else, each of which may follow those before
 abbrev pub AreAttributes : Bool → List Attribute → List ℕ → List Attribute → Type 0
 AreAttributes as4 before bytes [] = bytes ≡ []
-AreAttributes as4 before bytes (a ∷ list) = (more : List ℕ) × IsAttributeIn bytes a more × (may_follow as4 before a ≡ true) × AreAttributes as4 (before ++ a ∷ []) more list
+AreAttributes as4 before bytes (a ∷ list) =
+    (more : List ℕ) × IsAttributeIn bytes a more × (may_follow as4 before a ≡ true)
+    × AreAttributes as4 (before ++ a ∷ []) more list
 
 -- ---- messages
 

@@ -13,5 +13,6 @@ pub fn prefix_text_is_read()
 /// Only the text of an address and a length is read, and as the prefix of that address.
 pub fn read_text_is_a_prefix()
     ensures { (text : List ℕ) (p : Cidr) → cidr_in text ≡ Some p
-        → (addr : ℕ) × (len : ℕ) × (addr < 2 ^ 32) × (len ≤ 32) × (text ≡ address_text addr ++ 47 ∷ decimal len) × (p ≡ masked addr len) }
+        → (addr : ℕ) × (len : ℕ) × (addr < 2 ^ 32) × (len ≤ 32)
+        × (text ≡ address_text addr ++ 47 ∷ decimal len) × (p ≡ masked addr len) }
 {}

@@ -38,7 +38,7 @@ joined a s s1 s2 s3 new t0 t1 t2 t3 =
     let grouped : big_bytes 4 a.asn ++ (big_bytes 8 a.seq ++ (big_bytes 8 a.time ++ (a.hash ++ signature a.sig))) ≡ authenticator a = simp append_assoc in
     subst (λ (t : List ℕ). Takes s t new) grouped r0
 
--- what stands behind the time
+-- what stands after the time
 record IsSigned (asn seq time : ℕ) (s : Spot) (v : Authenticator) (new : Spot) : Type 0 where
   pub hash : length v.hash ≡ digest_size
   pub sig : IsSignature v.sig

@@ -66,7 +66,7 @@ bytes_again n v at rest len =
     let long : ltb (length (v ++ rest)) n ≡ false = le-ltb _ _ (omega (arith, len, length-append v rest)) in
     rw (long, take_at v rest n len, drop_at v rest n len, len) refl
 
--- ---- one field and what is read behind it
+-- ---- one field and what is read after it
 
 pub record Step {A B : Type 0} (Fits : A → Type 0) (spell : A → List ℕ) (s : Spot) (f : A × Spot → Result B ℕ) (y : B) : Type 0 where
   pub value : A

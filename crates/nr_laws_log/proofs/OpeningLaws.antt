@@ -97,7 +97,7 @@ tail_takes asn first prev s v new fits e =
     subst (λ (p : Opening × Spot). IsTail asn first prev s p.0 p.1) (ok_is (made, b.next) (v, new) b_is.1)
     (record { asn_is = refl; first_is = refl; prev_is = refl; body = a.value_fits; least = leb-true _ _ b_is.0; most = b.value_fits; takes = both })
 
--- the parts one behind another
+-- the parts one after another
 joined : (o : Opening) (s s1 s2 s3 s4 s5 new : Spot) → Takes s answer_magic s1 → Takes s1 (number_text 4 o.asn) s2 → Takes s2 (number_text 8 o.first) s3 → Takes s3 o.prev s4
     → Takes s4 (number_text 1 (flag_of o.first)) s5 → Takes s5 (body_text o.body ++ number_text 4 o.count) new → Takes s (opening_text o) new
 joined o s s1 s2 s3 s4 s5 new t0 t1 t2 t3 t4 t5 =

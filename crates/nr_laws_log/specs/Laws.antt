@@ -13,9 +13,10 @@ pub record Takes (s : Spot) (text : List ℕ) (new : Spot) : Type 0 where
 
 -- What is read from bytes is a value that fits, and what was taken is its spelling.
 abbrev pub ReadsSpelled : {A : Type 0} → (Spot → Read A) → (A → Type 0) → (A → List ℕ) → Type 0
-ReadsSpelled {A = A} item Fits spell = (s : Spot) (v : A) (new : Spot) → IsBytes s.rest → item s ≡ Ok (v, new) → Fits v × Takes s (spell v) new
+ReadsSpelled {A = A} item Fits spell =
+    (s : Spot) (v : A) (new : Spot) → IsBytes s.rest → item s ≡ Ok (v, new) → Fits v × Takes s (spell v) new
 
--- The spelling of a value that fits is read as that value, whatever stands behind it.
+-- The spelling of a value that fits is read as that value, whatever stands after it.
 abbrev pub SpelledReads : {A : Type 0} → (Spot → Read A) → (A → Type 0) → (A → List ℕ) → Type 0
 SpelledReads {A = A} item Fits spell =
     (v : A) (at : ℕ) (rest : List ℕ) → Fits v
@@ -23,7 +24,8 @@ SpelledReads {A = A} item Fits spell =
 
 -- No spelling goes on as another does: where two stand at the start of the same bytes, they are of one value.
 abbrev pub IsPrefixFree : {A : Type 0} → (A → Type 0) → (A → List ℕ) → Type 0
-IsPrefixFree {A = A} Fits spell = (v w : A) (x y : List ℕ) → Fits v → Fits w → spell v ++ x ≡ spell w ++ y → (v ≡ w) × (x ≡ y)
+IsPrefixFree {A = A} Fits spell =
+    (v w : A) (x y : List ℕ) → Fits v → Fits w → spell v ++ x ≡ spell w ++ y → (v ≡ w) × (x ≡ y)
 
 -- ---- what is asked of a value besides
 

@@ -9,7 +9,7 @@ pub fn authenticator_reads_spelled()
     ensures { ReadsSpelled authenticator_at IsAuthenticator authenticator }
 {}
 
-/// The spelling of an authenticator that fits is read as that authenticator, whatever stands behind it.
+/// The spelling of an authenticator that fits is read as that authenticator, whatever stands after it.
 pub fn authenticator_spelled_reads()
     ensures { SpelledReads authenticator_at IsAuthenticator authenticator }
 {}

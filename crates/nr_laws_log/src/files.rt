@@ -7,7 +7,8 @@ ghost use Rattle.nr_spec_log.specs.Answer.{AnswerFile, IsAnswer, answer_of, answ
 
 /// What is read as a file of authenticators fits, and the file is its spelling, all of it.
 pub fn auths_file_found()
-    ensures { (bytes : List ℕ) (auths : List Authenticator) → IsBytes bytes → auths_of bytes ≡ Ok auths → AreAuthenticators auths × (bytes ≡ auths_file auths) }
+    ensures { (bytes : List ℕ) (auths : List Authenticator) → IsBytes bytes → auths_of bytes ≡ Ok auths
+        → AreAuthenticators auths × (bytes ≡ auths_file auths) }
 {}
 
 /// The spelling of authenticators that fit is read as these authenticators.
@@ -17,7 +18,8 @@ pub fn auths_file_again()
 
 /// What is read as an answer file is an answer, and the file is its spelling, all of it.
 pub fn answer_file_found()
-    ensures { (bytes : List ℕ) (answer : AnswerFile) → IsBytes bytes → answer_of bytes ≡ Ok answer → IsAnswer answer × (bytes ≡ answer_file answer) }
+    ensures { (bytes : List ℕ) (answer : AnswerFile) → IsBytes bytes → answer_of bytes ≡ Ok answer
+        → IsAnswer answer × (bytes ≡ answer_file answer) }
 {}
 
 /// The spelling of an answer is read as that answer.

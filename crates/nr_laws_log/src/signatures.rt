@@ -8,7 +8,7 @@ pub fn signature_reads_spelled()
     ensures { ReadsSpelled signature_at IsSignature signature }
 {}
 
-/// The spelling of a signature that fits is read as that signature, whatever stands behind it.
+/// The spelling of a signature that fits is read as that signature, whatever stands after it.
 pub fn signature_spelled_reads()
     ensures { SpelledReads signature_at IsSignature signature }
 {}

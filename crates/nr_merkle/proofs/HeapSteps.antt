@@ -25,7 +25,7 @@ is_joined_more nodes k leaves made above room made_is joined j from to =
     this : k ≡ j → Made
     this here = ap (λ (i : ℕ). get_or (set nodes k made) i []) (sym here) ∙ get_or-set_same nodes k made [] room ∙ made_is ∙ ap (λ (i : ℕ). node (get_or nodes (2 * i) [] ++ get_or nodes (2 * i + 1) [])) here
 
--- ---- the nodes of a level stand one behind another
+-- ---- the nodes of a level stand one after another
 
 -- a row of 2^depth nodes ends before the next begins
 pub in_heap : (height depth n : ℕ) → depth ≤ height → n < 2 ^ depth → 2 ^ depth + n < 2 * 2 ^ height

@@ -5,7 +5,8 @@ use Rattle.nr_spec_keys.specs.Trees.{node}
 
 -- the nodes from 1 up to here are made of the two below them
 abbrev pub IsJoined : ℕ → ℕ → List (List ℕ) → Type 0
-IsJoined from to nodes = (k : ℕ) → from ≤ k → k < to → get_or nodes k [] ≡ node (get_or nodes (2 * k) [] ++ get_or nodes (2 * k + 1) [])
+IsJoined from to nodes =
+    (k : ℕ) → from ≤ k → k < to → get_or nodes k [] ≡ node (get_or nodes (2 * k) [] ++ get_or nodes (2 * k + 1) [])
 
 pub record IsHeap (height : ℕ) (nodes : List (List ℕ)) : Type 0 where
   pub least : 1 ≤ height

@@ -19,7 +19,7 @@ fn sibling(n: usize) -> usize
 }
 
 impl Tree {
-    // Appends the digests on the way from a leaf up to the root. After `Memory` some of them may stand behind
+    // Appends the digests on the way from a leaf up to the root. After `Memory` some of them may stand after
     // what was there, here and in the call below.
     fn put_path(&self, leaf: u32, out: &mut Vec<u8>) -> Result<(), Memory>
         requires { leaf < 2 ^ self.now.height }
@@ -42,7 +42,8 @@ impl Tree {
     ) -> Result<(), Memory>
         requires of_seed { self.now ≡ tree_of seed.now.0 self.now.height }
         requires in_tree { leaf < 2 ^ self.now.height }
-        ensures ok { OnOk result (out.new.items ≡ out.old.items ++ signature (signature_by seed.now.0 self.now.height leaf body.now)) }
+        ensures ok { OnOk result (out.new.items
+            ≡ out.old.items ++ signature (signature_by seed.now.0 self.now.height leaf body.now)) }
         ensures memory { OnErr result (take (length out.old.items) out.new.items ≡ out.old.items) }
         ensures least { 1 ≤ self.now.height }
         ensures most { self.now.height ≤ 16 }
@@ -59,11 +60,14 @@ impl Tree {
     pub fn sign(&self, seed: &Seed, leaf: u32, body: &[u8], out: &mut Vec<u8>) -> Result<(), Memory>
         requires of_seed { self.now ≡ tree_of seed.now.0 self.now.height }
         requires in_tree { leaf < 2 ^ self.now.height }
-        ensures ok { OnOk result (out.new.items ≡ out.old.items ++ signature (signature_by seed.now.0 self.now.height leaf body.now)) }
+        ensures ok { OnOk result (out.new.items
+            ≡ out.old.items ++ signature (signature_by seed.now.0 self.now.height leaf body.now)) }
         // It is signed under the root.
         ensures signed { IsSigned (root_of self.now) body.now (signature_by seed.now.0 self.now.height leaf body.now) }
         // What was appended reads as this signature, to its end.
-        ensures reads { OnOk result (let written = drop (length out.old.items) out.new.items in signature_at (start_of written) ≡ Ok (signature_by seed.now.0 self.now.height leaf body.now, record { at = length written; rest = [] })) }
+        ensures reads { OnOk result (let written = drop (length out.old.items) out.new.items in
+            signature_at (start_of written)
+            ≡ Ok (signature_by seed.now.0 self.now.height leaf body.now, record { at = length written; rest = [] })) }
         ensures memory { OnErr result (out.new.items ≡ out.old.items) }
     {
         let before = out.len();

@@ -49,7 +49,7 @@ fn climb(leaf_digest: Digest, path: &[u8], leaf: u32, height: u8) -> Digest
 
 // The root to which a signature leads.
 #[tactic(auto, unfolding(nr_spec_keys::specs::Trees::root_from))]
-fn root_of(body: &[u8], sig: &Sig<'_>) -> Digest
+fn recomputed_root(body: &[u8], sig: &Sig<'_>) -> Digest
     ensures { result.0 ≡ root_from body.now (signature_of sig.now) }
 {
     let leaf = leaf_of(sig.pairs, &signed_digest(body));
@@ -61,5 +61,5 @@ fn root_of(body: &[u8], sig: &Sig<'_>) -> Digest
 pub fn verify(root: &Digest, body: &[u8], sig: &Sig<'_>) -> bool
     ensures { IsTrue result ↔ IsSigned root.now.0 body.now (signature_of sig.now) }
 {
-    root_of(body, sig) == *root
+    recomputed_root(body, sig) == *root
 }

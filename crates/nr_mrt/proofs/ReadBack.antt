@@ -57,7 +57,7 @@ subtype_small : (sent : Bool) → subtype_of sent < 256 ^ 2
 subtype_small true = omega arith
 subtype_small false = omega arith
 
--- a record, whatever stands behind it
+-- a record, whatever stands after it
 record_back : (time : ℕ) (sent : Bool) (e : Ends) (raw : List ℕ) → time < 2 ^ 32 * 1000000 → length raw ≤ 65535 → AreEnds e → (at : ℕ) (more : List ℕ)
     → record_at (spot at (record_bytes time sent e raw ++ more)) ≡ Ok (Carries (record { time = time; peer_as = e.peer_as; peer = e.peer; own = sent; as4 = true; raw = raw }), spot (at + 4 + 2 + 2 + 4 + (24 + length raw)) more)
 unfolding record_at

@@ -9,8 +9,10 @@ use Rattle.nr_mrt.specs.declared.item.MrtItem.TheVariants.{Message, State, Skipp
 use Rattle.nr_mrt.specs.declared.record.Peer.{Peer}
 
 abbrev pub item_of : MrtItem → Item
-item_of (Message time peer_as peer local as4 raw) = Carries (record { time = time; peer_as = peer_as; peer = peer; own = local; as4 = as4; raw = raw.now })
-item_of (State time peer_as peer old new) = Turns (record { time = time; peer_as = peer_as; peer = peer; old = old; new = new })
+item_of (Message time peer_as peer local as4 raw) =
+    Carries (record { time = time; peer_as = peer_as; peer = peer; own = local; as4 = as4; raw = raw.now })
+item_of (State time peer_as peer old new) =
+    Turns (record { time = time; peer_as = peer_as; peer = peer; old = old; new = new })
 item_of Skipped = Skips
 
 abbrev pub peer_of : Peer → Speaker

@@ -16,8 +16,11 @@ pub record AreEnds (e : SessionEnds) : Type 0 where
   pub peer : e.peer < 2 ^ 32
   pub own : e.own < 2 ^ 32
 
--- The bytes read as a record of this message, wherever they stand and whatever stands behind them.
+-- The bytes read as a record of this message, wherever they stand and whatever stands after them.
 abbrev pub ReadsBack : ℕ → Bool → SessionEnds → List ℕ → List ℕ → Type 0
 ReadsBack time sent e raw bytes =
     (at : ℕ) (more : List ℕ)
-    → record_at (record { at = at; rest = bytes ++ more }) ≡ Ok (Carries (record { time = time; peer_as = e.peer_as; peer = e.peer; own = sent; as4 = true; raw = raw }), record { at = at + length bytes; rest = more })
+    → record_at (record { at = at; rest = bytes ++ more }) ≡ Ok (
+      Carries (record { time = time; peer_as = e.peer_as; peer = e.peer; own = sent; as4 = true; raw = raw }),
+      record { at = at + length bytes; rest = more },
+    )

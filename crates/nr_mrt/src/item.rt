@@ -8,9 +8,9 @@ pub enum MrtItem<'a> {
         time: u64,
         peer_as: u32,
         peer: u32,
-        /// Whether the recording router sent it itself.
+        /// Whether the recording router sent the message itself, to the peer.
         local: bool,
-        /// Whether AS numbers have four bytes in it.
+        /// Whether AS numbers in the message have four bytes.
         as4: bool,
         raw: &'a [u8],
     },

@@ -3,6 +3,7 @@
 #![tactic(auto)]
 
 mod item;
+mod kind;
 mod record;
 mod write;
 

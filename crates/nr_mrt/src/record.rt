@@ -8,13 +8,11 @@ ghost use Rattle.nr_spec_bgp.specs.Records.{is_session, is_state, is_message, is
 ghost use Rattle.nr_mrt.specs.Views.{item_of, peer_of, Offers};
 
 use crate::item::MrtItem;
+use crate::kind::{
+    BGP4MP, BGP4MP_ET, IPV4, MESSAGE, MESSAGE_AS4, MESSAGE_AS4_LOCAL, MESSAGE_LOCAL, STATE_CHANGE,
+    STATE_CHANGE_AS4,
+};
 use nr_bytes::{Cursor, Place};
-
-const BGP4MP: u16 = 16;
-
-const BGP4MP_ET: u16 = 17;
-
-const IPV4: u16 = 1;
 
 fn is_session(kind: u16) -> bool
     ensures { result ≡ is_session kind }
@@ -25,25 +23,25 @@ fn is_session(kind: u16) -> bool
 fn is_state(subtype: u16) -> bool
     ensures { result ≡ is_state subtype }
 {
-    subtype == 0 || subtype == 5
+    subtype == STATE_CHANGE || subtype == STATE_CHANGE_AS4
 }
 
 fn is_message(subtype: u16) -> bool
     ensures { result ≡ is_message subtype }
 {
-    subtype == 1 || subtype == 4 || subtype == 6 || subtype == 7
+    subtype == MESSAGE || subtype == MESSAGE_AS4 || is_local(subtype)
 }
 
 fn is_as4(subtype: u16) -> bool
     ensures { result ≡ is_as4 subtype }
 {
-    subtype == 4 || subtype == 5 || subtype == 7
+    subtype == MESSAGE_AS4 || subtype == STATE_CHANGE_AS4 || subtype == MESSAGE_AS4_LOCAL
 }
 
 fn is_local(subtype: u16) -> bool
     ensures { result ≡ is_own subtype }
 {
-    subtype == 6 || subtype == 7
+    subtype == MESSAGE_LOCAL || subtype == MESSAGE_AS4_LOCAL
 }
 
 fn read_microseconds(cursor: &mut Cursor, kind: u16) -> Result<u32, Place>
@@ -68,7 +66,7 @@ fn read_as(cursor: &mut Cursor, as4: bool) -> Result<u32, Place>
     }
 }
 
-// Who speaks: the fields before the addresses.
+// The peer of a session, by the fields before the addresses.
 #[derive(Clone, Copy)]
 struct Peer {
     asn: u32,
@@ -87,7 +85,7 @@ fn read_peer(cursor: &mut Cursor, as4: bool) -> Result<Peer, Place>
     Ok(Peer { asn, family })
 }
 
-// The addresses of a session, of which the peer's is given.
+// The two addresses of a session, of which the peer's is given.
 fn read_addresses(cursor: &mut Cursor) -> Result<u32, Place>
     ensures value { Reads (λ n. n) offset_of result cursor.new (addresses_at cursor.old) }
     ensures onward { IsOnward cursor.old cursor.new }

@@ -5,6 +5,7 @@ ghost use Rattle.byteorder.specs.Endian.{big_bytes};
 ghost use Rattle.nr_spec_bgp.specs.Records.{session_bytes, body_bytes, record_bytes};
 ghost use Rattle.nr_mrt.specs.Writing.{ends_of, session_ends, ReadsBack};
 
+use crate::kind::{BGP4MP_ET, IPV4, MESSAGE_AS4, MESSAGE_AS4_LOCAL};
 use nr_bytes::{Memory, put_bytes, put_u16, put_u32};
 use std::alloc::Global;
 
@@ -17,19 +18,12 @@ struct Ends {
     own: u32,
 }
 
-const BGP4MP_ET: u16 = 17;
-
-const MESSAGE_AS4: u16 = 4;
-
-const MESSAGE_AS4_LOCAL: u16 = 7;
-
-const IPV4: u16 = 1;
-
 const SECOND: u64 = 1_000_000;
 
 // The common header.
 fn put_header(out: &mut Vec<u8>, seconds: u32, local: bool, len: u32) -> Result<(), Memory>
-    ensures { OnOk result (out.new.items ≡ out.old.items ++ big_bytes 4 seconds ++ big_bytes 2 17 ++ big_bytes 2 (if local then 7 else 4) ++ big_bytes 4 len) }
+    ensures { OnOk result (out.new.items ≡ out.old.items ++ big_bytes 4 seconds ++ big_bytes 2 17
+        ++ big_bytes 2 (if local then 7 else 4) ++ big_bytes 4 len) }
 {
     put_u32(out, seconds)?;
     put_u16(out, BGP4MP_ET)?;
@@ -44,7 +38,7 @@ fn put_header(out: &mut Vec<u8>, seconds: u32, local: bool, len: u32) -> Result<
     put_u32(out, len)
 }
 
-// Who speaks, with interface 0.
+// The two ends of the session, with interface 0.
 #[tactic(auto, unfolding(nr_spec_bgp::specs::Records::session_bytes))]
 fn put_session(out: &mut Vec<u8>, ends: Ends) -> Result<(), Memory>
     ensures { OnOk result (out.new.items ≡ out.old.items ++ session_bytes (ends_of ends)) }
@@ -99,10 +93,12 @@ pub fn write_message(
 ) -> Result<(), Memory>
     requires time { time < 2 ^ 32 * 1000000 }
     requires raw { length raw.now ≤ 65535 }
-    ensures ok { OnOk result (out.new.items ≡ out.old.items ++ record_bytes time local (session_ends peer_as own_as peer own) raw.now) }
+    ensures ok { OnOk result (out.new.items
+        ≡ out.old.items ++ record_bytes time local (session_ends peer_as own_as peer own) raw.now) }
     ensures memory { OnErr result (out.new.items ≡ out.old.items) }
     // What is appended is read as what it was made of.
-    ensures reads_back { let ends = session_ends peer_as own_as peer own in ReadsBack time local ends raw.now (record_bytes time local ends raw.now) }
+    ensures reads_back { let ends = session_ends peer_as own_as peer own in
+        ReadsBack time local ends raw.now (record_bytes time local ends raw.now) }
 {
     let alloc = *out.allocator();
     let ends = Ends {

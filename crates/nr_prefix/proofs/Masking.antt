@@ -1,4 +1,4 @@
--- An address whose bits behind the length are 0 stays so.
+-- An address whose bits after the length are 0 stays so.
 use Rattle.std.proofs.Common.{ℕ, zero, ◌-◌, ◌*◌, ◌/◌, ◌^◌, ◌<◌, ◌≤◌, arith, ap}
 use Rattle.std.proofs.Math.Nat.{mul-div_cancel, div-mul-le_self}
 use Rattle.std.proofs.lemmas.Nat.{pow_pos}

@@ -38,7 +38,7 @@ fn front(addr: u32, len: u8) -> u32
     if len == 0 { 0 } else { addr >> (32 - len) }
 }
 
-// The address with the bits behind the length set to 0.
+// The address with the bits after the length set to 0.
 fn masked(addr: u32, len: u8) -> u32
     requires { len ≤ 32 }
     ensures { result ≡ (masked addr len).addr }
@@ -51,7 +51,7 @@ fn masked(addr: u32, len: u8) -> u32
 }
 
 impl Prefix {
-    /// The prefix of an address. Bits behind the length are left out. `None` exactly where the length is
+    /// The prefix of an address. Bits after the length are left out. `None` exactly where the length is
     /// above 32.
     #[tactic(auto, using(crate::proofs::Masking::masked_is_cidr))]
     pub fn new(addr: u32, len: u8) -> Option<Prefix>

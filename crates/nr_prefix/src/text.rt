@@ -35,7 +35,7 @@ fn digits_len(text: &[u8]) -> usize
     text.iter().take_while(|c| c.is_ascii_digit()).count()
 }
 
-// The number, of at most this value, that the digits in front of the text write, and what stands behind
+// The number, of at most this value, that the digits in front of the text write, and what stands after
 // them.
 #[tactic(auto, unfolding(nr_spec_bgp::specs::PrefixText::number_in))]
 fn number_in(most: u32, text: &[u8]) -> Option<(u32, &[u8])>
@@ -47,7 +47,7 @@ fn number_in(most: u32, text: &[u8]) -> Option<(u32, &[u8])>
     if n <= most { Some((n, rest)) } else { None }
 }
 
-// What stands behind this byte in front of the text.
+// What stands after this byte in front of the text.
 fn behind(byte: u8, text: &[u8]) -> Option<&[u8]>
     ensures { option_map (λ rest. rest.now) result ≡ behind byte text.now }
 {
@@ -87,7 +87,7 @@ fn cidr_in(text: &[u8]) -> Option<Prefix>
 
 impl Prefix {
     /// The prefix that the text `a.b.c.d/l` writes, in decimal numbers of at most 255 and 32 without
-    /// leading zeros. Bits behind the length are left out. `None` for any other text.
+    /// leading zeros. Bits after the length are left out. `None` for any other text.
     pub fn parse(text: &[u8]) -> Option<Prefix>
         ensures { result ≡ cidr_in text.now }
     {

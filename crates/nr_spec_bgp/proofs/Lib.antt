@@ -1,4 +1,5 @@
 pub mod Steps
 pub mod Walks
+pub mod Short
 pub mod Alike
 pub mod Back

@@ -36,7 +36,7 @@ number_takes n s x e = let g = guard_ok (ltb (length s.rest) n) s.at (big_number
 pub bytes_takes : (n : ℕ) (s : Spot) (x : List ℕ × Spot) → bytes_at n s ≡ Ok x → (n ≤ length s.rest) × (x ≡ (take n s.rest, past n s))
 bytes_takes n s x e = let g = guard_ok (ltb (length s.rest) n) s.at (take n s.rest, past n s) x e in (ltb-false _ _ g.0, sym g.1)
 
--- what is left behind a field
+-- what is left after a field
 pub number_leaves : (n : ℕ) (s : Spot) (x : ℕ × Spot) → number_at n s ≡ Ok x → length x.1.rest + n ≡ length s.rest
 number_leaves n s x e = let t = number_takes n s x e in rw t.1 (omega (arith, length-drop n s.rest))
 

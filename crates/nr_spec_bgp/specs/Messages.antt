@@ -25,7 +25,7 @@ pub data Meaning : Type 0 where
 abbrev pub cidrs_at : Spot → Result (List Cidr) ℕ
 cidrs_at s = all_at cidr_at s
 
--- a part behind its length, a number of two bytes: one that isn't all there is a fault at its length
+-- a part after its length, a number of two bytes: one that isn't all there is a fault at its length
 abbrev pub sized_part_at : Spot → Read Spot
 sized_part_at s = do
   size ← number_at 2 s
@@ -51,7 +51,7 @@ open_at size s = do
   parameters ← number_at 1 fixed.1
   wants (parameters.0 + 29 == size) fixed.1.at Opens
 
--- the message of a type behind its header, and the places of its length and of its type
+-- the message of a type after its header, and the places of its length and of its type
 unfoldable pub body_at : Bool → ℕ → ℕ → ℕ → ℕ → Spot → Result Meaning ℕ
 body_at as4 size size-at kind kind-at s =
     if kind == 1 then wants (nat_le 29 size) size-at s >>= (λ body. open_at size body) else
@@ -86,7 +86,7 @@ message_bytes kind body = replicate 16 255 ++ big_bytes 2 (19 + length body) ++ 
 abbrev pub keepalive_bytes : List ℕ
 keepalive_bytes = message_bytes 4 []
 
--- bytes behind their length, a number of two bytes
+-- bytes after their length, a number of two bytes
 abbrev pub sized : List ℕ → List ℕ
 sized bytes = big_bytes 2 (length bytes) ++ bytes
 

@@ -10,7 +10,7 @@ pub record Segment : Type 0 where
   pub kind : ℕ  -- 1 AS_SET, 2 AS_SEQUENCE, 3 AS_CONFED_SEQUENCE, 4 AS_CONFED_SET
   pub numbers : List ℕ
 
--- the numbers of that many bytes each, one behind another
+-- the numbers of that many bytes each, one after another
 abbrev pub counted_numbers : ℕ → ℕ → List ℕ → List ℕ
 counted_numbers zero size bytes = []
 counted_numbers (suc n) size bytes = big_number size bytes ∷ counted_numbers n size (drop size bytes)

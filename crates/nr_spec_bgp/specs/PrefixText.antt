@@ -7,7 +7,9 @@ use Rattle.nr_spec_bgp.specs.Prefixes.{Cidr, masked}
 
 -- the four bytes of an address, the highest first, with `.` between them
 abbrev pub address_text : ℕ → List ℕ
-address_text addr = decimal (addr / 2 ^ 24) ++ 46 ∷ decimal (addr / 2 ^ 16 % 256) ++ 46 ∷ decimal (addr / 2 ^ 8 % 256) ++ 46 ∷ decimal (addr % 256)
+address_text addr =
+    decimal (addr / 2 ^ 24) ++ 46 ∷ decimal (addr / 2 ^ 16 % 256)
+    ++ 46 ∷ decimal (addr / 2 ^ 8 % 256) ++ 46 ∷ decimal (addr % 256)
 
 -- the one text of a prefix
 abbrev pub cidr_text : Cidr → List ℕ
@@ -32,18 +34,18 @@ numeral (a ∷ b ∷ c ∷ d ∷ more) = None
 abbrev pub digits_len : List ℕ → ℕ
 digits_len text = prefix_len is_ascii_digit text
 
--- the number, of at most this value, that the digits in front of a text write, and what stands behind them
+-- the number, of at most this value, that the digits in front of a text write, and what stands after them
 unfoldable pub number_in : ℕ → List ℕ → Option (ℕ × List ℕ)
 number_in most text = do
   n ← numeral (take (digits_len text) text)
   if nat_le n most then Some (n, drop (digits_len text) text) else None
 
--- what stands behind this byte in front of a text
+-- what stands after this byte in front of a text
 abbrev pub behind : ℕ → List ℕ → Option (List ℕ)
 behind byte [] = None
 behind byte (x ∷ text) = if x == byte then Some text else None
 
--- an address in front of a text, and what stands behind it
+-- an address in front of a text, and what stands after it
 unfoldable pub address_in : List ℕ → Option (ℕ × List ℕ)
 address_in text = do
   a ← number_in 255 text
@@ -55,7 +57,7 @@ address_in text = do
   d ← number_in 255 text-d
   Some (a.0 * 2 ^ 24 + b.0 * 2 ^ 16 + c.0 * 2 ^ 8 + d.0, d.1)
 
--- the prefix that a text writes: bits behind the length are left out
+-- the prefix that a text writes: bits after the length are left out
 unfoldable pub cidr_in : List ℕ → Option Cidr
 cidr_in text = do
   addr ← address_in text

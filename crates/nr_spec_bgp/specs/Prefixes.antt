@@ -13,7 +13,7 @@ pub record Cidr : Type 0 where
 abbrev pub front : ℕ → ℕ → ℕ
 front addr len = addr / 2 ^ (32 - len)
 
--- the prefix of an address: the bits behind the length are 0
+-- the prefix of an address: the bits after the length are 0
 abbrev pub masked : ℕ → ℕ → Cidr
 masked addr len = record { addr = front addr len * 2 ^ (32 - len); len = len }
 
@@ -61,7 +61,7 @@ faults_at place (Ok x) = Ok x
 faults_at place (Err e) = Err place
 
 -- A prefix that passes the end of its part, or is longer than 32, is a fault at its length.
--- The bits behind the length don't matter.
+-- The bits after the length don't matter.
 unfoldable pub cidr_at : Spot → Read Cidr
 cidr_at s = do
   len ← number_at 1 s

@@ -4,14 +4,15 @@ use Rattle.byteorder.specs.Endian.{big_bytes}
 use Rattle.nr_spec_wire.specs.Reading.{Spot, Read, ◌>>=◌, number_at, part_at}
 use Rattle.nr_spec_bgp.specs.Paths.{as_size}
 
--- a message of a session, with its time in microseconds
+-- A message of a session, with its time in microseconds. The peer is the router at the other end of the session,
+-- whichever of the two sent the message.
 pub record Heard : Type 0 where
   pub time : ℕ
   pub peer_as : ℕ
   pub peer : ℕ
-  pub own : Bool  -- whether the recording router sent it itself
-  pub as4 : Bool
-  pub raw : List ℕ
+  pub own : Bool  -- whether the recording router sent the message itself, to the peer
+  pub as4 : Bool  -- whether AS numbers in the message have four bytes
+  pub raw : List ℕ  -- the message
 
 -- a session's change of state
 pub record Turned : Type 0 where
@@ -47,7 +48,7 @@ is_own subtype = subtype == 6 || subtype == 7
 abbrev pub microseconds_at : ℕ → Spot → Read ℕ
 microseconds_at kind s = if kind == 17 then number_at 4 s else Ok (0, s)
 
--- who speaks: the fields before the family
+-- the peer of the session, by the fields up to the family
 pub record Peer : Type 0 where
   pub asn : ℕ
   pub family : ℕ
@@ -60,7 +61,7 @@ peer_at as4 s = do
   family ← number_at 2 interface.1
   Ok (record { asn = peer.0; family = family.0 }, family.1)
 
--- the addresses of a session over IPv4, of which the peer's is given
+-- the two addresses of a session over IPv4, of which the peer's is given
 abbrev pub addresses_at : Spot → Read ℕ
 addresses_at s = do
   peer ← number_at 4 s
@@ -79,18 +80,30 @@ state_at time asn s = do
 unfoldable pub heard_at : ℕ → ℕ → ℕ → Spot → Result Item ℕ
 heard_at subtype time asn s = do
   peer ← addresses_at s
-  Ok (Carries (record { time = time; peer_as = asn; peer = peer.0; own = is_own subtype; as4 = is_as4 subtype; raw = peer.1.rest }))
+  Ok (Carries (record {
+    time = time;
+    peer_as = asn;
+    peer = peer.0;
+    own = is_own subtype;
+    as4 = is_as4 subtype;
+    raw = peer.1.rest;
+  }))
+
+-- what stands after the family, at this time, with this peer: a change of state or a message
+abbrev pub event_at : ℕ → ℕ → ℕ → Spot → Result Item ℕ
+event_at subtype time asn s = if is_state subtype then state_at time asn s else heard_at subtype time asn s
 
 -- the body of a record that is read; one of another family than IPv4 is skipped
 unfoldable pub session_at : ℕ → ℕ → ℕ → Spot → Result Item ℕ
 session_at seconds kind subtype s = do
   micros ← microseconds_at kind s
   peer ← peer_at (is_as4 subtype) micros.1
-  if peer.0.family == 1 then (if is_state subtype then state_at (seconds * 1000000 + micros.0) peer.0.asn peer.1 else heard_at subtype (seconds * 1000000 + micros.0) peer.0.asn peer.1) else Ok Skips
+  if peer.0.family == 1 then event_at subtype (seconds * 1000000 + micros.0) peer.0.asn peer.1 else Ok Skips
 
 -- a record of another type or subtype is skipped by its length
 abbrev pub item_at : ℕ → ℕ → ℕ → Spot → Result Item ℕ
-item_at seconds kind subtype s = if is_session kind && (is_state subtype || is_message subtype) then session_at seconds kind subtype s else Ok Skips
+item_at seconds kind subtype s =
+    if is_session kind && (is_state subtype || is_message subtype) then session_at seconds kind subtype s else Ok Skips
 
 -- the common header (section 2) and the body, whose bytes are all there
 unfoldable pub record_at : Spot → Read Item
@@ -105,7 +118,7 @@ record_at s = do
 
 -- ---- spelling: a BGP4MP_ET record of subtype 4, or 7 for one's own message
 
--- who wrote it, at which address, and who heard it
+-- the two ends of a session: the peer's and the recording router's own, each by its AS and its address
 pub record Ends : Type 0 where
   pub peer_as : ℕ
   pub own_as : ℕ
@@ -114,11 +127,14 @@ pub record Ends : Type 0 where
 
 -- the fields of the body up to the message: the interface is 0 and the family IPv4
 unfoldable pub session_bytes : Ends → List ℕ
-session_bytes e = big_bytes 4 e.peer_as ++ big_bytes 4 e.own_as ++ big_bytes 2 0 ++ big_bytes 2 1 ++ big_bytes 4 e.peer ++ big_bytes 4 e.own
+session_bytes e =
+    big_bytes 4 e.peer_as ++ big_bytes 4 e.own_as ++ big_bytes 2 0 ++ big_bytes 2 1
+    ++ big_bytes 4 e.peer ++ big_bytes 4 e.own
 
 unfoldable pub body_bytes : ℕ → Ends → List ℕ → List ℕ
 body_bytes micros e raw = big_bytes 4 micros ++ session_bytes e ++ raw
 
 abbrev pub record_bytes : ℕ → Bool → Ends → List ℕ → List ℕ
 record_bytes time sent e raw =
-    big_bytes 4 (time / 1000000) ++ big_bytes 2 17 ++ big_bytes 2 (if sent then 7 else 4) ++ big_bytes 4 (length (body_bytes (time % 1000000) e raw)) ++ body_bytes (time % 1000000) e raw
+    big_bytes 4 (time / 1000000) ++ big_bytes 2 17 ++ big_bytes 2 (if sent then 7 else 4)
+    ++ big_bytes 4 (length (body_bytes (time % 1000000) e raw)) ++ body_bytes (time % 1000000) e raw

@@ -31,7 +31,7 @@ length-joined size piece (suc n) sizes =
     let before = length-joined size piece n (λ k lt. sizes k (omega arith)) in
     omega (arith, length-append (joined piece n) (piece n), sizes n (omega arith))
 
--- what stands before and behind a piece
+-- what stands before and after a piece
 pub joined_split : {A : Type 0} (piece : ℕ → List A) (k n : ℕ) → k < n → (rest : List A) × (joined piece n ≡ joined piece k ++ (piece k ++ rest))
 unfolding joined
 joined_split piece k zero lt = absurd (omega arith)
@@ -47,7 +47,7 @@ joined_split {A} piece k (suc n) lt = elim (cases_lt k n) [ inl below ↦ earlie
     last : k ≡ n → Split
     last is = ([], rw (is, append-nil (piece n)) refl)
 
--- a piece of a piece: the front of what stands behind the pieces before it
+-- a piece of a piece: the front of what stands after the pieces before it
 pub drop-joined : {A : Type 0} (size : ℕ) (piece : ℕ → List A) (k n : ℕ) → k < n → AreOfSize size piece n → (rest : List A) × (drop (size * k) (joined piece n) ≡ piece k ++ rest)
 drop-joined {A} size piece k n lt sizes =
     let split = joined_split piece k n lt in
@@ -87,7 +87,7 @@ front-stays out more now new so_far kept =
     let len : length now ≡ length out + length more = ap length so_far ∙ length-append out more in
     sym (take-take (length out) (length now) new (omega arith)) ∙ ap (take (length out)) (kept ∙ so_far) ∙ take_at out more (length out) refl
 
--- four appended one behind another
+-- four appended one after another
 pub appended : (out a b c d first second third fourth : List ℕ) → a ≡ out ++ first → b ≡ a ++ second → c ≡ b ++ third → d ≡ c ++ fourth → d ≡ out ++ (first ++ (second ++ (third ++ fourth)))
 appended out a b c d first second third fourth a_is b_is c_is d_is =
     d_is ∙ ap (λ (xs : List ℕ). xs ++ fourth) (c_is ∙ ap (λ (xs : List ℕ). xs ++ third) (b_is ∙ ap (λ (xs : List ℕ). xs ++ second) a_is)) ∙ simp append_assoc

@@ -38,7 +38,7 @@ is_leaf_true leaf height least most below = rw (le-leb 1 height least, le-leb he
 
 -- ---- the whole
 
--- what is read behind each field
+-- what is read after each field
 abbrev after_path : ℕ → ℕ → List ℕ → List ℕ × Spot → Read Signature
 after_path leaf height pairs path = Ok (record { leaf = leaf; height = height; pairs = pairs; path = path.0 }, path.1)
 
@@ -54,7 +54,7 @@ after_any leaf any = wants (is_leaf leaf.0 any.0) leaf.1.at any >>= after_height
 abbrev after_leaf : ℕ × Spot → Read Signature
 after_leaf leaf = number_at 1 leaf.1 >>= after_any leaf
 
--- Reading stops right behind the spelling.
+-- Reading stops right after the spelling.
 pub signature_again : (s : Signature) (at : ℕ) (rest : List ℕ) → IsSignature s → signature_at (record { at = at; rest = signature s ++ rest }) ≡ Ok (s, record { at = at + length (signature s); rest = rest })
 unfolding signature_at spot
 signature_again s at rest fits =

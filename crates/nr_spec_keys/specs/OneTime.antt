@@ -56,7 +56,8 @@ beside bit first other = if bit == 0 then first ++ other else other ++ first
 
 -- the public digests of pair i, from what is shown of it for a digest
 abbrev pub publics_from : List ℕ → List ℕ → ℕ → List ℕ
-publics_from pairs digest i = beside (bit_of digest i) (sha256 (piece_of 32 pairs (2 * i))) (piece_of 32 pairs (2 * i + 1))
+publics_from pairs digest i =
+    beside (bit_of digest i) (sha256 (piece_of 32 pairs (2 * i))) (piece_of 32 pairs (2 * i + 1))
 
 -- the leaf's digest recomputed from the pairs that are shown for a digest
 abbrev pub leaf_from : List ℕ → List ℕ → List ℕ

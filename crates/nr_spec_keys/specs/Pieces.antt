@@ -1,4 +1,4 @@
--- Pieces one behind another, and cutting them apart again.
+-- Pieces one after another, and cutting them apart again.
 use Rattle.std.specs.Prelude.{ℕ, zero, suc, ◌*◌, List, [], ◌++◌, take, drop}
 
 -- piece 0, piece 1 and so on, so many of them

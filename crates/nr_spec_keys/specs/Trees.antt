@@ -1,5 +1,5 @@
 -- Trees of one-time keys (R. Merkle, A certified digital signature, 1989), and when a signature is signed
--- under a root. That speaks of neither seed nor tree, which only the signer has.
+-- under a root. What signed means speaks of neither seed nor tree, which only the signer has.
 use Rattle.std.specs.Prelude.{◌≡◌, ℕ, zero, suc, ◌+◌, ◌-◌, ◌*◌, ◌/◌, ◌%◌, ◌^◌, ◌==◌, if◌then◌else◌, List, [], ◌∷◌, ◌++◌, get_or}
 use Rattle.sha2.specs.Sha256.{sha256}
 use Rattle.nr_spec_log.specs.Authenticator.{Signature}
@@ -57,4 +57,9 @@ path_of tree leaf = joined (λ level. node_at tree.leaves level (sibling (leaf /
 
 -- the signature of a body by a leaf of the tree of this height under a seed
 unfoldable pub signature_by : List ℕ → ℕ → ℕ → List ℕ → Signature
-signature_by seed height leaf body = record { leaf = leaf; height = height; pairs = pairs_of seed leaf (signed_digest_of body); path = path_of (tree_of seed height) leaf }
+signature_by seed height leaf body = record {
+  leaf = leaf;
+  height = height;
+  pairs = pairs_of seed leaf (signed_digest_of body);
+  path = path_of (tree_of seed height) leaf;
+}

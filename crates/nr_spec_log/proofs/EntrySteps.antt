@@ -1,4 +1,4 @@
--- Reading entries one behind another, as a loop or an iterator does.
+-- Reading entries one after another, as a loop or an iterator does.
 use Rattle.std.proofs.Common.{◌≡◌, ℕ, zero, suc, ◌+◌, ◌-◌, ◌<◌, ◌≤◌, Bool, false, List, [], length, None, Ok, Err, refl, sym, ap, ◌∙◌, arith}
 use Rattle.nr_spec_wire.specs.Reading.{Spot, Read, ◌>>=◌, rows, fault}
 use Rattle.nr_spec_wire.proofs.Steps.{behind, ok_is}
@@ -26,7 +26,7 @@ entries-fault checkpoint last (suc n) s place left is = rw is refl
 
 -- ---- a loop keeps the time of the last entry alone
 
--- the time of the last of the entries read, behind an entry of this time
+-- the time of the last of the entries read, after an entry of this time
 abbrev pub ending : ℕ → Read (List LogEntry) → Read ℕ
 ending last read = read >>= λ entries. Ok (last_time last entries.0, entries.1)
 
@@ -34,7 +34,7 @@ pub ending-behind : (last : ℕ) (e : LogEntry) (read : Read (List LogEntry)) �
 ending-behind last e (Ok entries) = refl
 ending-behind last e (Err place) = refl
 
--- entries of which the last has this time, and where reading stands behind them
+-- entries of which the last has this time, and where reading stands after them
 pub record EndsWith (read : Read (List LogEntry)) (last : ℕ) (new : Spot) : Type 0 where
   pub is_read : read ≡ Ok (rows read, new)
   pub is_last : last ≡ last_time 0 (rows read)

@@ -1,5 +1,5 @@
 -- Answer files: the entries of a log from some entry on, with the value before them and a signed head. An
--- answer that starts behind the first entry holds the body of the checkpoint with which it starts.
+-- answer that starts after the first entry holds the body of the checkpoint with which it starts.
 use Rattle.std.specs.Prelude.{ℕ, zero, suc, ◌+◌, ◌-◌, ◌^◌, ◌<◌, ◌≤◌, ◌≡◌, Bool, true, false, ◌&&◌, ◌||◌, ◌==◌, nat_lt, nat_le, if◌then◌else◌, List, [], ◌∷◌, ◌++◌, length, Option, None, Some, Result, Ok, codes}
 use Rattle.std.specs.List.{flat_map}
 use Rattle.std.specs.Str.{bytes_eq}
@@ -12,7 +12,7 @@ pub record AnswerFile : Type 0 where
   pub asn : ℕ
   pub first : ℕ  -- the number of the first entry
   pub prev : List ℕ  -- the chain value before it
-  pub body : Option (List ℕ)  -- the checkpoint body, where the answer starts behind entry 1
+  pub body : Option (List ℕ)  -- the checkpoint body, where the answer starts after entry 1
   pub entries : List LogEntry
   pub head : Authenticator  -- of the last entry
 
@@ -35,7 +35,7 @@ checkpoint_kind = 6
 abbrev pub entry : LogEntry → List ℕ
 entry e = big_bytes 8 e.time ++ (big_bytes 1 e.kind ++ (big_bytes 2 (length e.content) ++ e.content))
 
--- a flag, and behind a 1 the length and the body
+-- a flag, and after a 1 the length and the body
 abbrev pub body_field : Option (List ℕ) → List ℕ
 body_field None = 0 ∷ []
 body_field (Some body) = 1 ∷ (big_bytes 4 (length body) ++ body)
@@ -50,7 +50,7 @@ pub record IsEntry (e : LogEntry) : Type 0 where
   pub kind : e.kind < 256
   pub content : length e.content < 2 ^ 16
 
--- entries that fit, whose times don't run back behind this one
+-- entries that fit, whose times don't run back after this one
 abbrev pub AreEntriesFrom : ℕ → List LogEntry → Type 0
 AreEntriesFrom last [] = Unit {0}
 AreEntriesFrom last (e ∷ es) = IsEntry e × (last ≤ e.time) × AreEntriesFrom e.time es
@@ -69,7 +69,8 @@ IsCheckpointFirst (e ∷ es) = (e.kind ≡ checkpoint_kind) × (length e.content
 abbrev pub StartsAt : ℕ → AnswerFile → Type 0
 StartsAt zero a = ⊥
 StartsAt (suc zero) a = (a.prev ≡ genesis_value a.asn) × (a.body ≡ None)
-StartsAt (suc (suc n)) a = (body : List ℕ) × (a.body ≡ Some body) × (length body ≤ most_body) × IsCheckpointFirst a.entries
+StartsAt (suc (suc n)) a =
+    (body : List ℕ) × (a.body ≡ Some body) × (length body ≤ most_body) × IsCheckpointFirst a.entries
 
 -- what has a spelling
 pub record IsAnswer (a : AnswerFile) : Type 0 where
@@ -94,11 +95,11 @@ is_first first = nat_le 1 first && nat_le first most_first
 abbrev pub body_offset : ℕ
 body_offset = 53
 
--- A log begins with its genesis value; behind the first entry any value may stand.
+-- A log begins with its genesis value; after the first entry any value may stand.
 abbrev pub is_prev : ℕ → ℕ → List ℕ → Bool
 is_prev asn first prev = nat_lt 1 first || bytes_eq prev (genesis_value asn)
 
--- the flag is 0 at the first entry, and 1 behind it
+-- the flag is 0 at the first entry, and 1 after it
 abbrev pub is_body_flag : ℕ → ℕ → Bool
 is_body_flag first flag = flag == (if nat_lt 1 first then 1 else 0)
 
@@ -143,7 +144,7 @@ pub record Opening : Type 0 where
   pub body : Option (List ℕ)
   pub count : ℕ
 
--- The answer starts behind entry 1.
+-- The answer starts after entry 1.
 abbrev pub is_later : ℕ → Bool
 is_later first = nat_lt 1 first
 
@@ -167,7 +168,8 @@ abbrev pub head_of : Opening → List LogEntry → Head
 head_of o entries = record { asn = o.asn; seq = o.first + o.count - 1; time = last_time 0 entries }
 
 abbrev pub answer_from : Opening → List LogEntry → Authenticator → AnswerFile
-answer_from o entries head = record { asn = o.asn; first = o.first; prev = o.prev; body = o.body; entries = entries; head = head }
+answer_from o entries head =
+    record { asn = o.asn; first = o.first; prev = o.prev; body = o.body; entries = entries; head = head }
 
 unfoldable pub answer_of : List ℕ → Result AnswerFile ℕ
 answer_of bytes = do

@@ -19,13 +19,14 @@ pub record ChainItem : Type 0 where
 abbrev pub shown : LogEntry → ChainItem
 shown e = record { time = e.time; kind = e.kind; digest = sha256 e.content }
 
--- the value before the first entry of the log of an AS
+-- the chain value before the first entry of the log of an AS
 unfoldable pub genesis_value : ℕ → List ℕ
 genesis_value asn = sha256 (codes "netreview 1" ++ big_bytes 4 asn)
 
--- the value of entry number seq, behind the value of the entry before it
+-- the chain value of entry number seq, from the value of the entry before
 unfoldable pub link_value : List ℕ → ℕ → ChainItem → List ℕ
-link_value before seq item = sha256 (before ++ big_bytes 8 seq ++ big_bytes 8 item.time ++ big_bytes 1 item.kind ++ item.digest)
+link_value before seq item =
+    sha256 (before ++ big_bytes 8 seq ++ big_bytes 8 item.time ++ big_bytes 1 item.kind ++ item.digest)
 
 -- how far a chain has come: its last value, and the number of the next entry
 pub record Chain : Type 0 where
@@ -41,13 +42,14 @@ pub record Link : Type 0 where
   pub time : ℕ
   pub value : List ℕ
 
--- the links of entries that stand behind one another
+-- the links of entries that stand one after another
 abbrev pub links_of : Chain → List LogEntry → List Link
 links_of chain [] = []
 links_of chain (e ∷ es) =
-    record { seq = chain.seq; time = e.time; value = link_value chain.value chain.seq (shown e) } ∷ links_of (chained chain (shown e)) es
+    record { seq = chain.seq; time = e.time; value = link_value chain.value chain.seq (shown e) }
+    ∷ links_of (chained chain (shown e)) es
 
--- the value of the last of them
+-- the chain value of the last of such entries
 abbrev pub value_after : Chain → List LogEntry → List ℕ
 value_after chain [] = chain.value
 value_after chain (e ∷ es) = value_after (chained chain (shown e)) es

@@ -1,4 +1,4 @@
--- Reading values one behind another, as a loop or an iterator does.
+-- Reading values one after another, as a loop or an iterator does.
 use Rattle.std.proofs.Common.{◌≡◌, ℕ, zero, suc, ◌+◌, ◌-◌, ◌<◌, ◌≤◌, Bool, true, false, List, [], ◌∷◌, length, Option, Some, None, Result, Ok, Err, refl, sym, ap, ◌∙◌, arith}
 use Rattle.std.proofs.lemmas.Bool.{ne_eqb}
 use Rattle.nr_spec_wire.specs.Reading.{Spot, Read, ◌>>=◌, wants, rows_at, rows, fault}
@@ -20,7 +20,7 @@ pub wants_ok : {A : Type 0} (test : Bool) (place : ℕ) (x y : A) → wants test
 wants_ok true place x y e = (refl, ok_is x y e)
 wants_ok false place x y e = absurd cc
 
--- a value and what is read behind it
+-- a value and what is read after it
 abbrev pub behind : {A : Type 0} → A → Read (List A) → Read (List A)
 behind x read = read >>= λ others. Ok (x ∷ others.0, others.1)
 

@@ -20,7 +20,7 @@ start_of bytes = record { at = 0; rest = bytes }
 abbrev pub past : ℕ → Spot → Spot
 past n s = record { at = s.at + n; rest = drop n s.rest }
 
--- a value and where reading stands behind it, or the place of the first field that doesn't read
+-- a value and where reading stands after it, or the place of the first field that doesn't read
 abbrev pub Read : Type 0 → Type 0
 Read A = Result (A × Spot) ℕ
 
@@ -54,7 +54,8 @@ ends_at s x = if length s.rest == 0 then Ok x else Err s.at
 abbrev pub between : Spot → Spot → List ℕ
 between from to = take (length from.rest - length to.rest) from.rest
 
--- Values to the end of the bytes. Each takes a byte or more, so the number of bytes is fuel enough.
+-- Values to the end of the bytes, and where reading ends. Each takes a byte or more, so the number of bytes is
+-- fuel enough.
 unfoldable pub rows_at : {A : Type 0} → (Spot → Read A) → ℕ → Spot → Read (List A)
 rows_at item zero s = Ok ([], s)
 rows_at item (suc fuel) s = if length s.rest == 0 then Ok ([], s) else (do
@@ -65,16 +66,14 @@ rows_at item (suc fuel) s = if length s.rest == 0 then Ok ([], s) else (do
 abbrev pub all_rows_at : {A : Type 0} → (Spot → Read A) → Spot → Read (List A)
 all_rows_at item s = rows_at item (length s.rest) s
 
--- the same values alone
-unfoldable pub values_at : {A : Type 0} → (Spot → Read A) → ℕ → Spot → Result (List A) ℕ
-values_at item zero s = Ok []
-values_at item (suc fuel) s = if length s.rest == 0 then Ok [] else (do
-  first ← item s
-  others ← values_at item fuel first.1
-  Ok (first.0 ∷ others))
+-- the values of such a reading, without where it ends
+abbrev pub values : {A : Type 0} → Read (List A) → Result (List A) ℕ
+values (Ok read) = Ok read.0
+values (Err place) = Err place
 
+-- the values to the end of the bytes alone
 abbrev pub all_at : {A : Type 0} → (Spot → Read A) → Spot → Result (List A) ℕ
-all_at item s = values_at item (length s.rest) s
+all_at item s = values (all_rows_at item s)
 
 -- the values that were read, none after a fault
 abbrev pub rows : {A : Type 0} → Read (List A) → List A
@@ -88,22 +87,22 @@ fault (Err place) = Some place
 
 -- ---- what a reader of the code answers
 
--- New stands where old does or behind it, and as much closer to the end.
+-- New stands where old does or after it, and as much closer to the end.
 pub record IsOnward (old new : Spot) : Type 0 where
   pub left : length new.rest ≤ length old.rest
   pub end : new.at + length new.rest ≡ old.at + length old.rest
 
--- A result is what reading gives: its value, seen by view, and the spot behind it, or the place of its fault.
+-- A result is what reading gives: its value, seen by view, and the spot after the value, or the place of the fault.
 abbrev pub Reads : {X Y E : Type 0} → (X → Y) → (E → ℕ) → Result X E → Spot → Read Y → Type 0
 Reads view place (Ok x) new read = read ≡ Ok (view x, new)
 Reads view place (Err e) new read = read ≡ Err (place e)
 
--- The same where a fault leaves the reader where it was.
+-- The same, and a fault leaves the reader where the reader was.
 abbrev pub Gives : {X Y E : Type 0} → (X → Y) → (E → ℕ) → Result X E → Spot → Spot → Read Y → Type 0
 Gives view place (Ok x) old new read = read ≡ Ok (view x, new)
 Gives view place (Err e) old new read = (read ≡ Err (place e)) × (new ≡ old)
 
--- The same for what reads all of the bytes.
+-- The same for a reading of all of the bytes, which gives no spot.
 abbrev pub Answers : {X Y E : Type 0} → (X → Y) → (E → ℕ) → Result X E → Result Y ℕ → Type 0
 Answers view place (Ok x) read = read ≡ Ok (view x)
 Answers view place (Err e) read = read ≡ Err (place e)

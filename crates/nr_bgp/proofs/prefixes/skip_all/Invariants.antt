@@ -1,6 +1,6 @@
 use Rattle.std.proofs.Common.{◌≡◌, length}
 use Rattle.nr_spec_bgp.specs.Messages.{cidrs_at}
-use Rattle.nr_bgp.specs.Left.{fault}
+use Rattle.nr_spec_wire.specs.Reading.{fault}
 use Rattle.nr_bgp.proofs.prefixes.skip_all.Given as goal
 
 abbrev pub invariant-loop-cursor : goal.invariant-loop-cursor
