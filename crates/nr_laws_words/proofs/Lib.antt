@@ -1,0 +1,12 @@
+mod Rules
+mod Looks
+mod Steps
+mod Turns
+mod Lexed
+mod Walks
+mod Read
+mod Rows
+mod Uses
+mod Texts
+mod Items
+mod Theorem

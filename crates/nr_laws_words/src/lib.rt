@@ -1,0 +1,7 @@
+//! Which words a command takes, as pairs of an option and its value, and that the rule of `clap` is the same. The
+//! functions have no code: each is a theorem, which its contract states.
+#![tactic(auto)]
+
+mod words;
+
+pub use words::{dash_alone_is_plain, words_are_pairs, words_give_once};
