@@ -9,15 +9,17 @@ use Rattle.nr_spec_bgp.specs.Attributes.{Attribute, AttributeBlock, attributes_a
 use Rattle.nr_spec_bgp.specs.Messages.{Changes, Meaning, Opens, Updates, Notifies, KeepsAlive, Refreshes, cidrs_at, sized_part_at, update_at, open_at, body_at, is_marker, message_at, message_of}
 use Rattle.nr_spec_bgp.proofs.Steps.{bind_ok, ok_is, wants_ok, faults_ok}
 use Rattle.nr_spec_bgp.proofs.Back.{spot, then_back, byte_back, bytes_back, part_back, wants_back}
-use Rattle.nr_laws_bgp.specs.Grammar.{Holds, AreAttributes, IsMessageOf, IsOpen, IsUpdate, IsMessage}
-use Rattle.nr_laws_bgp.proofs.Pieces.{number_found, number_again, byte_found, bytes_found, part_found}
-use Rattle.nr_laws_bgp.proofs.GrammarWalk.{none_left, cidrs_found, cidrs_again, attributes_found, attributes_again}
+use Rattle.nr_laws_bgp.specs.Grammar.{AreAttributes, IsMessageOf, IsOpen, IsUpdate, IsMessage}
+use Rattle.nr_laws_bgp.specs.Values.{Holds, AreComplete}
+use Rattle.nr_laws_bgp.proofs.Pieces.{none_left, number_found, number_again, byte_found, bytes_found, part_found}
+use Rattle.nr_laws_bgp.proofs.ValueReading.{complete_found, complete_again}
+use Rattle.nr_laws_bgp.proofs.GrammarWalk.{cidrs_found, cidrs_again, attributes_found, attributes_again}
 
 test_of : (b : Bool) → (b ≡ true) ⊎ (b ≡ false)
 test_of true = inl refl
 test_of false = inr refl
 
-of_both : (a b : Bool) → (a && b) ≡ true → (a ≡ true) × (b ≡ true)
+pub of_both : (a b : Bool) → (a && b) ≡ true → (a ≡ true) × (b ≡ true)
 of_both true true e = (refl, refl)
 of_both true false e = absurd cc
 of_both false b e = absurd cc
@@ -92,13 +94,13 @@ update_found as4 s m e =
         as4_is = block.1;
         attributes = subst (λ (t : List ℕ). AreAttributes as4 [] t b.0.list) (sym block.0) block.2;
         announced = cidrs_found bp.0.1 n.0 n.1;
-        complete = ended (either_of (eqb (length bp.0.1.rest) 0) (is_complete b.0.list) fine.0);
+        complete = ended (length bp.0.1.rest) b.0.list (either_of (eqb (length bp.0.1.rest) 0) (is_complete b.0.list) fine.0);
       },
     )
   where
-    ended : {n : ℕ} {b : Bool} → (eqb n 0 ≡ true) ⊎ (b ≡ true) → (n ≡ 0) ⊎ (b ≡ true)
-    ended (inl t) = inl (eqb-true _ 0 t)
-    ended (inr t) = inr t
+    ended : (n : ℕ) (list : List Attribute) → (eqb n 0 ≡ true) ⊎ (is_complete list ≡ true) → (n ≡ 0) ⊎ AreComplete list
+    ended n list (inl t) = inl (eqb-true n 0 t)
+    ended n list (inr t) = inr (complete_found list t)
 
 block_again : (as4 : Bool) (at : ℕ) (b : AttributeBlock) → b.as4 ≡ as4 → AreAttributes as4 [] b.block b.list → block_at as4 (spot at b.block) ≡ Ok b
 unfolding block_at
@@ -113,7 +115,7 @@ update_again as4 at body c h =
     let behind-withdrawn = h.block_size ++ (b.block ++ behind-block) in
     let at-block = at + 2 + length h.withdrawn_part in
     let at-here = at-block + 2 + length b.block in
-    let fine : (eqb (length behind-block) 0 || is_complete b.list) ≡ true = either_true _ _ (begun h.complete) in
+    let fine : (eqb (length behind-block) 0 || is_complete b.list) ≡ true = either_true _ _ (begun (length behind-block) b.list h.complete) in
     ap (λ (t : List ℕ). update_at as4 (spot at t)) h.spelled
     ∙ then_back (sized_part_at (spot at (h.withdrawn_size ++ (h.withdrawn_part ++ behind-withdrawn)))) _ (spot (at + 2) h.withdrawn_part, spot at-block behind-withdrawn) _ (sized_again at h.withdrawn_size h.withdrawn_part behind-withdrawn h.withdrawn_sized)
     (then_back (cidrs_at (spot (at + 2) h.withdrawn_part)) _ c.withdrawn _ (cidrs_again h.withdrawn_part c.withdrawn h.withdrawn (at + 2))
@@ -122,9 +124,9 @@ update_again as4 at body c h =
     (then_back (wants (eqb (length behind-block) 0 || is_complete b.list) at-here b) _ b _ (wants_back (eqb (length behind-block) 0 || is_complete b.list) at-here b fine)
     (then_back (cidrs_at (spot at-here behind-block)) _ c.announced _ (cidrs_again behind-block c.announced h.announced at-here) refl)))))
   where
-    begun : {n : ℕ} {b : Bool} → (n ≡ 0) ⊎ (b ≡ true) → (eqb n 0 ≡ true) ⊎ (b ≡ true)
-    begun (inl t) = inl (eq-eqb _ 0 t)
-    begun (inr t) = inr t
+    begun : (n : ℕ) (list : List Attribute) → (n ≡ 0) ⊎ AreComplete list → (eqb n 0 ≡ true) ⊎ (is_complete list ≡ true)
+    begun n list (inl t) = inl (eq-eqb n 0 t)
+    begun n list (inr t) = inr (complete_again list t)
 
 -- ---- OPEN
 
@@ -226,7 +228,7 @@ body_found as4 size p kind q s m whole e =
 
 -- ---- the header
 
-ones_are : (n : ℕ) (bytes : List ℕ) → length bytes ≡ n → list_all (λ b. eqb b 255) bytes ≡ true → bytes ≡ replicate n 255
+pub ones_are : (n : ℕ) (bytes : List ℕ) → length bytes ≡ n → list_all (λ b. eqb b 255) bytes ≡ true → bytes ≡ replicate n 255
 ones_are zero bytes len e = none_left bytes len
 ones_are (suc n) [] len e = absurd (omega arith)
 ones_are (suc n) (b ∷ bytes) len e =
@@ -268,7 +270,7 @@ message_found as4 raw m e =
     sym size.1 ∙ whole ∙ ap length spelled ∙ ap (λ (n : ℕ). suc (suc (suc (suc (suc (suc (suc (suc (suc (suc (suc (suc (suc (suc (suc (suc n)))))))))))))))) (length-append field.field (k.0.0 ∷ k.0.1.rest)) ∙ omega (arith, field.holds.len) in
     by_kind as4 raw k.0.0 k.0.1.rest m header (body_found as4 d.0 b.0.at k.0.0 c.0.1.at k.0.1 m len k.2)
 
-header_again : (as4 : Bool) (raw : List ℕ) (kind : ℕ) (body : List ℕ) → IsMessageOf raw kind body → message_of as4 raw ≡ body_at as4 (19 + length body) 16 kind 18 (spot 19 body)
+pub header_again : (as4 : Bool) (raw : List ℕ) (kind : ℕ) (body : List ℕ) → IsMessageOf raw kind body → message_of as4 raw ≡ body_at as4 (19 + length body) 16 kind 18 (spot 19 body)
 unfolding message_at
 header_again as4 raw kind body h =
     let behind-size = kind ∷ body in

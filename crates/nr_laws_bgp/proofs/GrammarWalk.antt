@@ -10,11 +10,8 @@ use Rattle.nr_spec_bgp.proofs.Steps.{bind_ok, ok_is, wants_ok, faults_ok}
 use Rattle.nr_spec_bgp.proofs.Back.{spot, then_back, byte_back, bytes_back, wants_back}
 use Rattle.nr_spec_bgp.proofs.Walks.{all_end, cidr_eats, goes_on, all_of, each_value, attribute_eats, going_on, attributes_behind, attributes_step, attributes_end}
 use Rattle.nr_laws_bgp.specs.Grammar.{IsCidrIn, AreCidrs, IsAttributeIn, AreAttributes}
-use Rattle.nr_laws_bgp.proofs.Pieces.{number_found, number_again, byte_found, bytes_found}
-
-pub none_left : (bytes : List ℕ) → length bytes ≡ 0 → bytes ≡ []
-none_left [] e = refl
-none_left (x ∷ bytes) e = absurd (omega arith)
+use Rattle.nr_laws_bgp.proofs.Pieces.{none_left, number_found, number_again, byte_found, bytes_found}
+use Rattle.nr_laws_bgp.proofs.ValueReading.{follows_found, follows_again}
 
 -- ---- prefixes
 
@@ -115,7 +112,7 @@ attributes_step_found as4 before list s false item others none one more e =
     let what = a.0.0.what in
     let read : others (before ++ what ∷ []) a.0.1 ≡ Ok list = ap (λ (x : Attribute). others (before ++ x ∷ []) a.0.1) fine.1 ∙ w.2 in
     let rest = more a.0 (before ++ what ∷ []) a.1 read in
-    (what ∷ rest.0, rest.1 ∙ append_assoc before (what ∷ []) rest.0, (a.0.1.rest, one a.0 a.1, fine.0, rest.2))
+    (what ∷ rest.0, rest.1 ∙ append_assoc before (what ∷ []) rest.0, (a.0.1.rest, one a.0 a.1, follows_found as4 before what fine.0, rest.2))
 
 attributes_found_from : (as4 : Bool) (n : ℕ) (before list : List Attribute) (s : Spot) → length s.rest ≤ n → attributes_from n as4 before s ≡ Ok list → (rest : List Attribute) × (list ≡ before ++ rest) × AreAttributes as4 before s.rest rest
 unfolding attributes_from
@@ -139,7 +136,7 @@ attributes_again_from as4 before bytes (a ∷ list) h at =
     let next = attributes_again_from as4 (before ++ a ∷ []) h.0 list h.3 one.1 in
     attributes_step as4 before (spot at bytes) (attribute_some bytes a h.0 h.1)
     ∙ then_back (attribute_at (spot at bytes)) (going_on as4 before (attributes_behind as4)) (record { what = a; at = one.0 }, spot one.1 h.0) _ one.2
-    (then_back (wants (may_follow as4 before a) one.0 a) (λ (w : Attribute). attributes_behind as4 (before ++ w ∷ []) (spot one.1 h.0)) a _ (wants_back (may_follow as4 before a) one.0 a h.2)
+    (then_back (wants (may_follow as4 before a) one.0 a) (λ (w : Attribute). attributes_behind as4 (before ++ w ∷ []) (spot one.1 h.0)) a _ (wants_back (may_follow as4 before a) one.0 a (follows_again as4 before a h.2))
     (next ∙ ap (λ (l : List Attribute). let r : Result (List Attribute) ℕ = Ok l in r) (append_assoc before (a ∷ []) list)))
 
 pub attributes_again : (as4 : Bool) (bytes : List ℕ) (list : List Attribute) → AreAttributes as4 [] bytes list → (at : ℕ) → attributes_at as4 (spot at bytes) ≡ Ok list

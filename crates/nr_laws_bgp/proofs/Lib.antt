@@ -1,5 +1,9 @@
 pub mod Ranges
 pub mod Texts
 pub mod Pieces
+pub mod ValueReading
 pub mod GrammarWalk
 pub mod GrammarMessages
+pub mod RecordReading
+pub mod PlaceWalk
+pub mod HeaderPlaces

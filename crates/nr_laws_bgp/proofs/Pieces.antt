@@ -8,7 +8,11 @@ use Rattle.nr_spec_wire.proofs.Steps.{ok_is}
 use Rattle.nr_spec_wire.specs.Reading.{Spot, past, number_at, bytes_at, part_at}
 use Rattle.nr_spec_bgp.proofs.Steps.{number_takes, bytes_takes}
 use Rattle.nr_spec_bgp.proofs.Back.{spot}
-use Rattle.nr_laws_bgp.specs.Grammar.{Holds}
+use Rattle.nr_laws_bgp.specs.Values.{Holds}
+
+pub none_left : (bytes : List ℕ) → length bytes ≡ 0 → bytes ≡ []
+none_left [] e = refl
+none_left (x ∷ bytes) e = absurd (omega arith)
 
 enough : (xs more : List ℕ) (n : ℕ) → length xs ≡ n → ltb (length (xs ++ more)) n ≡ false
 enough xs more n e = le-ltb _ _ (omega (arith, length-append xs more))

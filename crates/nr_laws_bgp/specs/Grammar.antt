@@ -1,15 +1,10 @@
 -- The grammar of BGP messages, by cases on their bytes (RFC 4271, section 4). It says which bytes are a
 -- message and what it means, and nothing of how it is read.
-use Rattle.std.specs.Prelude.{◌≡◌, ℕ, ◌≤◌, Bool, true, List, [], ◌∷◌, ◌++◌, length, replicate, ◌⊎◌}
-use Rattle.byteorder.specs.Endian.{big_number}
+use Rattle.std.specs.Prelude.{◌≡◌, ℕ, ◌≤◌, Bool, List, [], ◌∷◌, ◌++◌, length, replicate, ◌⊎◌}
 use Rattle.nr_spec_bgp.specs.Prefixes.{Cidr, masked, address_of, bytes_for}
-use Rattle.nr_spec_bgp.specs.Attributes.{Attribute, size_bytes, may_follow, is_complete}
+use Rattle.nr_spec_bgp.specs.Attributes.{Attribute, size_bytes}
 use Rattle.nr_spec_bgp.specs.Messages.{Changes, Meaning, Opens, Updates, Notifies, KeepsAlive, Refreshes}
-
--- a field of that many bytes which holds the number
-pub record Holds (size n : ℕ) (field : List ℕ) : Type 0 where
-  pub len : length field ≡ size
-  pub value : big_number size field ≡ n
+use Rattle.nr_laws_bgp.specs.Values.{Holds, MayFollow, AreComplete}
 
 -- ---- prefixes
 
@@ -40,7 +35,7 @@ pub record IsAttributeIn (bytes : List ℕ) (a : Attribute) (more : List ℕ) : 
 abbrev pub AreAttributes : Bool → List Attribute → List ℕ → List Attribute → Type 0
 AreAttributes as4 before bytes [] = bytes ≡ []
 AreAttributes as4 before bytes (a ∷ list) =
-    (more : List ℕ) × IsAttributeIn bytes a more × (may_follow as4 before a ≡ true)
+    (more : List ℕ) × IsAttributeIn bytes a more × MayFollow as4 before a
     × AreAttributes as4 (before ++ a ∷ []) more list
 
 -- ---- messages
@@ -70,7 +65,7 @@ pub record IsUpdate (as4 : Bool) (body : List ℕ) (c : Changes) : Type 0 where
   pub as4_is : c.attributes.as4 ≡ as4
   pub attributes : AreAttributes as4 [] c.attributes.block c.attributes.list
   pub announced : AreCidrs announced_part c.announced
-  pub complete : (length announced_part ≡ 0) ⊎ (is_complete c.attributes.list ≡ true)
+  pub complete : (length announced_part ≡ 0) ⊎ AreComplete c.attributes.list
 
 -- which bytes are a message, and what it means
 abbrev pub IsMessage : Bool → List ℕ → Meaning → Type 0

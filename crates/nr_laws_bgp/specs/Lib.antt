@@ -1,1 +1,4 @@
+pub mod Values
 pub mod Grammar
+pub mod Records
+pub mod Places
