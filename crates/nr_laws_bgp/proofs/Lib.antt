@@ -7,3 +7,4 @@ pub mod GrammarMessages
 pub mod RecordReading
 pub mod PlaceWalk
 pub mod HeaderPlaces
+pub mod PathQuestions

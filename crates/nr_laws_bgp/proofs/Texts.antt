@@ -11,23 +11,23 @@ use Rattle.nr_spec_bgp.specs.PrefixText.{◌>>=◌, address_text, cidr_text, num
 
 -- ---- digits
 
-both_true : (a b : Bool) → a ≡ true → b ≡ true → (a && b) ≡ true
+pub both_true : (a b : Bool) → a ≡ true → b ≡ true → (a && b) ≡ true
 both_true true true p q = refl
 both_true true false p q = absurd cc
 both_true false b p q = absurd cc
 
-of_both : (a b : Bool) → (a && b) ≡ true → (a ≡ true) × (b ≡ true)
+pub of_both : (a b : Bool) → (a && b) ≡ true → (a ≡ true) × (b ≡ true)
 of_both true true e = (refl, refl)
 of_both true false e = absurd cc
 of_both false b e = absurd cc
 
-digit_is : (n : ℕ) → n < 10 → is_ascii_digit (48 + n) ≡ true
+pub digit_is : (n : ℕ) → n < 10 → is_ascii_digit (48 + n) ≡ true
 digit_is n h = both_true (leb 48 (48 + n)) (leb (48 + n) 57) (le-leb 48 (48 + n) (omega arith)) (le-leb (48 + n) 57 (omega arith))
 
 IsDigit : ℕ → Type 0
 IsDigit c = (48 ≤ c) × (c ≤ 57)
 
-digit_of : (c : ℕ) → is_ascii_digit c ≡ true → (48 ≤ c) × (c ≤ 57)
+pub digit_of : (c : ℕ) → is_ascii_digit c ≡ true → (48 ≤ c) × (c ≤ 57)
 digit_of c e = let b = of_both (leb 48 c) (leb c 57) e in (leb-true 48 c b.0, leb-true c 57 b.1)
 
 digit_more : (c : ℕ) (text : List ℕ) → is_ascii_digit c ≡ true → digits_len (c ∷ text) ≡ 1 + digits_len text
@@ -35,13 +35,13 @@ digit_more c text e = rw e refl
 
 -- ---- a number in decimal
 
-decimal_1 : (n : ℕ) → n < 10 → decimal n ≡ (48 + n) ∷ []
+pub decimal_1 : (n : ℕ) → n < 10 → decimal n ≡ (48 + n) ∷ []
 decimal_1 n h = decimal_digit n h
 
-decimal_2 : (n : ℕ) → 10 ≤ n → n < 100 → decimal n ≡ (48 + n / 10) ∷ (48 + n % 10) ∷ []
+pub decimal_2 : (n : ℕ) → 10 ≤ n → n < 100 → decimal n ≡ (48 + n / 10) ∷ (48 + n % 10) ∷ []
 decimal_2 n h k = decimal_step n h (omega arith) ∙ ap (λ (ds : List ℕ). ds ++ (48 + n % 10) ∷ []) (decimal_digit (n / 10) (omega arith))
 
-decimal_3 : (n : ℕ) → 100 ≤ n → n < 1000 → decimal n ≡ (48 + n / 10 / 10) ∷ (48 + n / 10 % 10) ∷ (48 + n % 10) ∷ []
+pub decimal_3 : (n : ℕ) → 100 ≤ n → n < 1000 → decimal n ≡ (48 + n / 10 / 10) ∷ (48 + n / 10 % 10) ∷ (48 + n % 10) ∷ []
 decimal_3 n h k = decimal_step n (omega arith) (omega arith) ∙ ap (λ (ds : List ℕ). ds ++ (48 + n % 10) ∷ []) (decimal_2 (n / 10) (omega arith) (omega arith))
 
 some : {A : Type 0} → A → Option A
@@ -121,18 +121,22 @@ address_back addr small rest stops =
     (then_some (number_in 255 text-d) _ (d, rest) _ (number_text 255 d (omega arith) (omega arith) rest stops)
     (ap (λ (n : ℕ). let r : Option (ℕ × List ℕ) = Some (n, rest) in r) value))))
 
-pub text_is_read : (p : Cidr) → IsCidr p → cidr_in (cidr_text p) ≡ Some p
+-- a text of an address and a length is read as the prefix of that address
+pub written_is_read : (addr len : ℕ) → addr < 2 ^ 32 → len ≤ 32 → cidr_in (address_text addr ++ 47 ∷ decimal len) ≡ Some (masked addr len)
 unfolding cidr_in
+written_is_read addr len small short =
+    let len-text = decimal len in
+    let number : number_in 32 len-text ≡ Some (len, []) = ap (number_in 32) (sym (append-nil len-text)) ∙ number_text 32 len (omega (arith, short)) short [] refl in
+    then_some (address_in (address_text addr ++ 47 ∷ len-text)) _ (addr, 47 ∷ len-text) _ (address_back addr small (47 ∷ len-text) refl)
+    (then_some (number_in 32 len-text) _ (len, []) _ number refl)
+
+pub text_is_read : (p : Cidr) → IsCidr p → cidr_in (cidr_text p) ≡ Some p
 text_is_read p h =
-    let len-text = decimal p.len in
-    let number : number_in 32 len-text ≡ Some (p.len, []) = ap (number_in 32) (sym (append-nil len-text)) ∙ number_text 32 p.len (omega (arith, h.len)) h.len [] refl in
-    then_some (address_in (address_text p.addr ++ 47 ∷ len-text)) _ (p.addr, 47 ∷ len-text) _ (address_back p.addr h.addr (47 ∷ len-text) refl)
-    (then_some (number_in 32 len-text) _ (p.len, []) _ number
-    (ap (λ (a : ℕ). let r : Option Cidr = Some (record { addr = a; len = p.len }) in r) h.clear))
+    written_is_read p.addr p.len h.addr h.len ∙ ap (λ (a : ℕ). let r : Option Cidr = Some (record { addr = a; len = p.len }) in r) h.clear
 
 -- ---- what is read is such a text
 
-abbrev AreDigits : List ℕ → Type 0
+abbrev pub AreDigits : List ℕ → Type 0
 AreDigits ds = AllByRecursion (λ c. is_ascii_digit c ≡ true) ds
 
 taken_of : (c : ℕ) (text : List ℕ) (b : Bool) → is_ascii_digit c ≡ b → AreDigits (take (digits_len text) text) → AreDigits (take (cond b (1 + digits_len text) 0) (c ∷ text))
@@ -149,7 +153,7 @@ cons_is a b ds es p q = cc
 some_is : {A : Type 0} (x y : A) → (let o : Option A = Some x in o) ≡ Some y → x ≡ y
 some_is x y e = cc
 
-numeral_decimal : (ds : List ℕ) (n : ℕ) → AreDigits ds → numeral ds ≡ Some n → decimal n ≡ ds
+pub numeral_decimal : (ds : List ℕ) (n : ℕ) → AreDigits ds → numeral ds ≡ Some n → decimal n ≡ ds
 numeral_decimal [] n h e = absurd cc
 numeral_decimal (a ∷ []) n h e =
     let ra = digit_of a h.0 in

@@ -3,6 +3,7 @@
 #![tactic(auto)]
 
 mod grammar;
+mod paths;
 mod places;
 mod reading;
 mod records;
@@ -10,6 +11,7 @@ mod text;
 mod values;
 
 pub use grammar::{message_is_read, read_message_is_a_message};
+pub use paths::{community_is_among_them, crossed_is_in_a_segment, path_numbers_are_in_order};
 pub use places::{
     header_faults_are_at_their_fields, message_faults_are_within, record_faults_are_within,
 };
