@@ -2,6 +2,8 @@
 //! functions have no code: each is a theorem, which its contract states.
 #![tactic(auto)]
 
+mod samples;
 mod words;
 
+pub use samples::{words_that_are_not_taken, words_that_are_taken};
 pub use words::{dash_alone_is_plain, words_are_pairs, words_give_once};

@@ -1,4 +1,2 @@
 pub mod Grammar
 pub mod Views
-pub mod Samples
-pub mod Orders

@@ -4,7 +4,6 @@
 
 mod command;
 mod grammar;
-pub mod laws;
 mod reading;
 
 pub use grammar::{Grammar, OptionRule, Values};

@@ -19,7 +19,7 @@ in_order = codes "record" ∷ codes "--key" ∷ codes "k" ∷ codes "--log" ∷ 
 abbrev pub in_another_order : List (List ℕ)
 in_another_order = codes "record" ∷ codes "a" ∷ codes "--log" ∷ codes "l" ∷ codes "b" ∷ codes "--key" ∷ codes "k" ∷ []
 
--- a value may stand behind `=`, and files behind `--`
+-- a value may stand after `=`, and files after `--`
 abbrev pub with_signs : List (List ℕ)
 with_signs = codes "record" ∷ codes "--log=l" ∷ codes "--key=k" ∷ codes "--" ∷ codes "a" ∷ codes "b" ∷ []
 
