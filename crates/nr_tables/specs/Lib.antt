@@ -1,0 +1,4 @@
+pub mod Held
+pub mod Stored
+pub mod Views
+pub mod Others
