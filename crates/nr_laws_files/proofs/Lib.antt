@@ -1,0 +1,5 @@
+pub mod Cases
+pub mod AuthCases
+pub mod EntryCases
+pub mod AnswerCases
+pub mod PartBytes

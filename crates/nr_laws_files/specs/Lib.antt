@@ -1,0 +1,4 @@
+pub mod Cuts
+pub mod Authenticators
+pub mod Answers
+pub mod Parts
