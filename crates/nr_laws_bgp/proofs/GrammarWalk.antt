@@ -1,6 +1,8 @@
 -- Reading is the grammar: prefixes and attributes.
-use Rattle.std.proofs.Common.{◌≡◌, ◌≢◌, ℕ, zero, suc, ◌+◌, ◌≤◌, ◌<◌, Bool, true, false, cond, eqb, leb, List, [], ◌∷◌, ◌++◌, length, Result, Ok, refl, sym, ap, subst, ◌∙◌, arith, append_assoc}
-use Rattle.std.proofs.lemmas.Bool.{le-leb, leb-true, eqb-true}
+use Rattle.std.proofs.Common.{◌≡◌, ◌≢◌, ℕ, zero, suc, ◌+◌, ◌≤◌, ◌<◌, Bool, true, false, cond, eqb, leb, List, [], ◌∷◌, ◌++◌, length, Result, Ok, refl, sym, ap, subst, ◌∙◌, arith, append_assoc, ◌/◌, ◌%◌, ◌*◌, inl, inr}
+use Rattle.std.proofs.lemmas.Bool.{le-leb, leb-true, eqb-true, eq-eqb, ne_eqb}
+use Rattle.std.specs.Prelude.{bit_and}
+use Rattle.std.proofs.lemmas.Nat.Bits.{and_pow}
 use Rattle.std.proofs.lemmas.List.{append-nil}
 use Rattle.nr_spec_wire.specs.Reading.{Spot, Read, ◌>>=◌, number_at, bytes_at, wants}
 use Rattle.nr_spec_bgp.specs.Prefixes.{Cidr, masked, address_of, bytes_for, faults_at, cidr_at}
@@ -9,7 +11,8 @@ use Rattle.nr_spec_bgp.specs.Messages.{cidrs_at}
 use Rattle.nr_spec_bgp.proofs.Steps.{bind_ok, ok_is, wants_ok, faults_ok}
 use Rattle.nr_spec_bgp.proofs.Back.{spot, then_back, byte_back, bytes_back, wants_back}
 use Rattle.nr_spec_bgp.proofs.Walks.{all_end, cidr_eats, goes_on, all_of, each_value, attribute_eats, going_on, attributes_behind, attributes_step, attributes_end}
-use Rattle.nr_laws_bgp.specs.Grammar.{IsCidrIn, AreCidrs, IsAttributeIn, AreAttributes}
+use Rattle.nr_laws_bgp.specs.Grammar.{IsCidrIn, AreCidrs, IsWidth, IsAttributeIn, AreAttributes}
+use Rattle.nr_laws_bgp.specs.Values.{Holds}
 use Rattle.nr_laws_bgp.proofs.Pieces.{none_left, number_found, number_again, byte_found, bytes_found}
 use Rattle.nr_laws_bgp.proofs.ValueReading.{follows_found, follows_again}
 
@@ -64,6 +67,24 @@ cidrs_again bytes (p ∷ list) h at =
 
 -- ---- attributes
 
+-- ---- the width of a length
+
+width_of : (flags : ℕ) → IsWidth flags (size_bytes flags)
+width_of flags =
+    let masked : bit_and flags 16 ≡ flags / 16 % 2 * 16 = and_pow flags 4 in
+    by_bit (flags / 16 % 2) (omega arith) refl masked
+  where
+    by_bit : (bit : ℕ) → bit < 2 → flags / 16 % 2 ≡ bit → bit_and flags 16 ≡ bit * 16 → IsWidth flags (size_bytes flags)
+    by_bit zero low is e = let none : eqb (bit_and flags 16) 0 ≡ true = eq-eqb (bit_and flags 16) 0 e in rw none (inl (is, refl))
+    by_bit (suc zero) low is e = let some : eqb (bit_and flags 16) 0 ≡ false = ne_eqb (bit_and flags 16) 0 (λ h. omega (arith, e, h)) in rw some (inr (is, refl))
+    by_bit (suc (suc n)) low is e = absurd (omega arith)
+
+width_same : (flags n m : ℕ) → IsWidth flags n → IsWidth flags m → n ≡ m
+width_same flags n m (inl p) (inl q) = p.1 ∙ sym q.1
+width_same flags n m (inl p) (inr q) = absurd (omega (arith, p.0, q.0))
+width_same flags n m (inr p) (inl q) = absurd (omega (arith, p.0, q.0))
+width_same flags n m (inr p) (inr q) = p.1 ∙ sym q.1
+
 attribute_found : (s : Spot) (x : Placed × Spot) → attribute_at s ≡ Ok x → IsAttributeIn s.rest x.0.what x.1.rest
 unfolding fields_at
 attribute_found s x e =
@@ -77,6 +98,8 @@ attribute_found s x e =
     let what : Attribute = record { kind = b.0.0; value = d.0.0 } in
     let made : IsAttributeIn s.rest what d.0.1.rest = record {
       flags = a.0.0;
+      width = size_bytes a.0.0;
+      width_is = width_of a.0.0;
       size = size.field;
       spelled = byte_found s a.0 a.1 ∙ ap (λ (t : List ℕ). a.0.0 ∷ t) (byte_found a.0.1 b.0 b.1 ∙ ap (λ (t : List ℕ). b.0.0 ∷ t) (size.spelled ∙ ap (λ (t : List ℕ). size.field ++ t) value.1));
       sized = record { len = size.holds.len; value = size.holds.value ∙ sym value.0 };
@@ -87,6 +110,7 @@ attribute_again : (bytes : List ℕ) (a : Attribute) (more : List ℕ) → IsAtt
 unfolding fields_at
 attribute_again bytes a more h at =
     let n = size_bytes h.flags in
+    let sized : Holds n (length a.value) h.size = subst (λ (k : ℕ). Holds k (length a.value) h.size) (width_same h.flags h.width n h.width_is (width_of h.flags)) h.sized in
     let behind-value = more in
     let behind-size = a.value ++ more in
     let behind-kind = h.size ++ behind-size in
@@ -96,7 +120,7 @@ attribute_again bytes a more h at =
     let read : fields_at (spot at (h.flags ∷ behind-flags)) ≡ Ok (record { what = a; at = place }, spot there more) =
     then_back (number_at 1 (spot at (h.flags ∷ behind-flags))) _ (h.flags, spot (at + 1) behind-flags) _ (byte_back h.flags at behind-flags)
     (then_back (number_at 1 (spot (at + 1) behind-flags)) _ (a.kind, spot (at + 1 + 1) behind-kind) _ (byte_back a.kind (at + 1) behind-kind)
-    (then_back (number_at n (spot (at + 1 + 1) behind-kind)) _ (length a.value, spot place behind-size) _ (number_again n (length a.value) (at + 1 + 1) h.size behind-size h.sized)
+    (then_back (number_at n (spot (at + 1 + 1) behind-kind)) _ (length a.value, spot place behind-size) _ (number_again n (length a.value) (at + 1 + 1) h.size behind-size sized)
     (then_back (bytes_at (length a.value) (spot place behind-size)) _ (a.value, spot there more) _ (bytes_back (length a.value) place a.value more refl) refl))) in
     (place, there, ap (λ (b : List ℕ). attribute_at (spot at b)) h.spelled ∙ ap (λ (r : Read Placed). faults_at at r) read)
 

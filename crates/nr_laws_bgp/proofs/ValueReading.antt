@@ -16,7 +16,7 @@ use Rattle.nr_spec_bgp.proofs.Steps.{bind_ok, ok_is, wants_ok}
 use Rattle.nr_spec_bgp.proofs.Back.{spot, then_back, byte_back, bytes_back, wants_back}
 use Rattle.nr_spec_bgp.proofs.Walks.{segment_eats, all_step, all_end, each_value}
 use Rattle.nr_spec_bgp.proofs.Short.{length_numbers}
-use Rattle.nr_laws_bgp.specs.Values.{AreNumbers, IsSegmentIn, AreSegments, IsValueOf, Has, MayFollow, AreComplete}
+use Rattle.nr_laws_bgp.specs.Values.{as_width, AreNumbers, IsSegmentIn, AreSegments, IsValueOf, Has, MayFollow, AreComplete}
 use Rattle.nr_laws_bgp.proofs.Pieces.{none_left, byte_found, bytes_found}
 
 -- ---- numbers
@@ -55,6 +55,10 @@ pub numbers_again : (size : ℕ) (numbers bytes : List ℕ) → 0 < size → Are
 numbers_again size numbers bytes some h =
     let n : length bytes / size ≡ length numbers = ap (λ (k : ℕ). k / size) (numbers_len size numbers bytes h) ∙ mul-div_cancel (length numbers) some in
     rw n (counted_again size numbers bytes h)
+
+same_width : (as4 : Bool) → as_size as4 ≡ as_width as4
+same_width true = refl
+same_width false = refl
 
 pub some_size : (as4 : Bool) → 0 < as_size as4
 some_size true = omega arith
@@ -96,7 +100,7 @@ segment_found as4 s x e =
       least = subst (λ (k : ℕ). 1 ≤ k) known.1 (leb-true 1 a.0.0 range.0);
       most = subst (λ (k : ℕ). k ≤ 4) known.1 (leb-true a.0.0 4 range.1);
       some = subst (λ (k : ℕ). 1 ≤ k) (counted.1 ∙ sym numbers.0) (leb-true 1 c.0.0 counted.0);
-      numbers = numbers.1;
+      numbers = subst (λ (n : ℕ). AreNumbers n f.0.0 (numbers_in size f.0.0)) (same_width as4) numbers.1;
     } in
     subst (λ (y : Segment × Spot). IsSegmentIn as4 s.rest y.0 y.1.rest) (ok_is (record { kind = b.0; numbers = numbers_in size f.0.0 }, f.0.1) x f.2) made
 
@@ -108,13 +112,14 @@ segment_again as4 bytes g more h at =
     let there = at + 1 + 1 + count * size in
     let after_kind = count ∷ (h.part ++ more) in
     let known : (leb 1 g.kind && leb g.kind 4) ≡ true = and_true _ _ (le-leb 1 g.kind h.least) (le-leb g.kind 4 h.most) in
-    let same = numbers_again size g.numbers h.part (some_size as4) h.numbers in
+    let numbers : AreNumbers size h.part g.numbers = subst (λ (n : ℕ). AreNumbers n h.part g.numbers) (sym (same_width as4)) h.numbers in
+    let same = numbers_again size g.numbers h.part (some_size as4) numbers in
     let read : segment_at as4 (spot at (g.kind ∷ after_kind)) ≡ Ok (record { kind = g.kind; numbers = numbers_in size h.part }, spot there more) =
     then_back (number_at 1 (spot at (g.kind ∷ after_kind))) _ (g.kind, spot (at + 1) after_kind) _ (byte_back g.kind at after_kind)
     (then_back (wants (leb 1 g.kind && leb g.kind 4) at g.kind) _ g.kind _ (wants_back _ at g.kind known)
     (then_back (number_at 1 (spot (at + 1) after_kind)) _ (count, spot (at + 1 + 1) (h.part ++ more)) _ (byte_back count (at + 1) (h.part ++ more))
     (then_back (wants (leb 1 count) (at + 1) count) _ count _ (wants_back _ (at + 1) count (le-leb 1 count h.some))
-    (then_back (bytes_at (count * size) (spot (at + 1 + 1) (h.part ++ more))) _ (h.part, spot there more) _ (bytes_back (count * size) (at + 1 + 1) h.part more (numbers_len size g.numbers h.part h.numbers)) refl)))) in
+    (then_back (bytes_at (count * size) (spot (at + 1 + 1) (h.part ++ more))) _ (h.part, spot there more) _ (bytes_back (count * size) (at + 1 + 1) h.part more (numbers_len size g.numbers h.part numbers)) refl)))) in
     (there, ap (λ (b : List ℕ). segment_at as4 (spot at b)) h.spelled ∙ read ∙ ap (λ (ns : List ℕ). let r : Read Segment = Ok (record { kind = g.kind; numbers = ns }, spot there more) in r) same)
 
 pub segments_found : (as4 : Bool) (s : Spot) (path : List Segment) → segments_at as4 s ≡ Ok path → AreSegments as4 s.rest path

@@ -1,8 +1,8 @@
 -- The grammar of BGP messages, by cases on their bytes (RFC 4271, section 4). It says which bytes are a
 -- message and what it means, and nothing of how it is read.
-use Rattle.std.specs.Prelude.{◌≡◌, ℕ, ◌≤◌, Bool, List, [], ◌∷◌, ◌++◌, length, replicate, ◌⊎◌}
+use Rattle.std.specs.Prelude.{◌≡◌, ℕ, ◌≤◌, ◌/◌, ◌%◌, Bool, List, [], ◌∷◌, ◌++◌, length, replicate, ◌⊎◌}
 use Rattle.nr_spec_bgp.specs.Prefixes.{Cidr, masked, address_of, bytes_for}
-use Rattle.nr_spec_bgp.specs.Attributes.{Attribute, size_bytes}
+use Rattle.nr_spec_bgp.specs.Attributes.{Attribute}
 use Rattle.nr_spec_bgp.specs.Messages.{Changes, Meaning, Opens, Updates, Notifies, KeepsAlive, Refreshes}
 use Rattle.nr_laws_bgp.specs.Values.{Holds, MayFollow, AreComplete}
 
@@ -24,12 +24,19 @@ AreCidrs bytes (p ∷ cidrs) = (more : List ℕ) × IsCidrIn bytes p more × Are
 
 -- ---- attributes
 
+-- how many bytes the length of an attribute has: two where the flag Extended Length is set, the bit of value 16, else
+-- one (RFC 4271, section 4.3)
+abbrev pub IsWidth : ℕ → ℕ → Type 0
+IsWidth flags width = ((flags / 16 % 2 ≡ 0) × (width ≡ 1)) ⊎ ((flags / 16 % 2 ≡ 1) × (width ≡ 2))
+
 -- an attribute in front of the bytes: flags, type, length and value
 pub record IsAttributeIn (bytes : List ℕ) (a : Attribute) (more : List ℕ) : Type 0 where
   pub flags : ℕ
+  pub width : ℕ
   pub size : List ℕ
   pub spelled : bytes ≡ flags ∷ a.kind ∷ (size ++ (a.value ++ more))
-  pub sized : Holds (size_bytes flags) (length a.value) size
+  pub width_is : IsWidth flags width
+  pub sized : Holds width (length a.value) size
 
 -- attributes one after another, and nothing else, each of which may follow those before
 abbrev pub AreAttributes : Bool → List Attribute → List ℕ → List Attribute → Type 0

@@ -1,9 +1,9 @@
 -- The grammar of the values of path attributes, by cases on their bytes (RFC 4271, sections 4.3 and 5; RFC 6793 for AS
 -- numbers of four bytes; RFC 5065 for confederations; RFC 1997 for communities). It says which bytes are a value and
 -- what the value is, and nothing of how the bytes are read.
-use Rattle.std.specs.Prelude.{◌≡◌, ℕ, ◌≤◌, Bool, List, [], ◌∷◌, ◌++◌, length, Any, ◌⊎◌}
+use Rattle.std.specs.Prelude.{◌≡◌, ℕ, ◌≤◌, Bool, true, false, List, [], ◌∷◌, ◌++◌, length, Any, ◌⊎◌}
 use Rattle.byteorder.specs.Endian.{big_number}
-use Rattle.nr_spec_bgp.specs.Paths.{Segment, as_size}
+use Rattle.nr_spec_bgp.specs.Paths.{Segment}
 use Rattle.nr_spec_bgp.specs.Attributes.{Attribute}
 
 -- a field of that many bytes which holds the number
@@ -17,6 +17,11 @@ AreNumbers size bytes [] = bytes ≡ []
 AreNumbers size bytes (n ∷ numbers) =
     (field : List ℕ) × (more : List ℕ) × (bytes ≡ field ++ more) × Holds size n field × AreNumbers size more numbers
 
+-- how many bytes an AS number has: four (RFC 6793), or two (RFC 4271)
+abbrev pub as_width : Bool → ℕ
+as_width true = 4
+as_width false = 2
+
 -- a segment in front of the bytes, and what stands after the segment: the type is 1 to 4, there are one or more numbers
 pub record IsSegmentIn (as4 : Bool) (bytes : List ℕ) (s : Segment) (more : List ℕ) : Type 0 where
   pub part : List ℕ
@@ -24,7 +29,7 @@ pub record IsSegmentIn (as4 : Bool) (bytes : List ℕ) (s : Segment) (more : Lis
   pub least : 1 ≤ s.kind
   pub most : s.kind ≤ 4
   pub some : 1 ≤ length s.numbers
-  pub numbers : AreNumbers (as_size as4) part s.numbers
+  pub numbers : AreNumbers (as_width as4) part s.numbers
 
 -- AS_PATH: segments one after another, and nothing else
 abbrev pub AreSegments : Bool → List ℕ → List Segment → Type 0
