@@ -1,0 +1,3 @@
+pub mod Lowest
+pub mod Pieces
+pub mod Files

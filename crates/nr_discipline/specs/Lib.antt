@@ -1,0 +1,3 @@
+pub mod Kept
+pub mod Hashing
+pub mod Views
