@@ -1,3 +1,4 @@
 pub mod Lowest
 pub mod Pieces
 pub mod Files
+pub mod Written

@@ -1,3 +1,4 @@
 pub mod Kept
 pub mod Hashing
 pub mod Views
+pub mod Lengths

@@ -6,6 +6,7 @@
 mod allowing;
 mod body;
 mod counts;
+mod encoding;
 mod numbers;
 mod overdue;
 mod slots;
@@ -13,5 +14,6 @@ mod slots;
 pub use allowing::allowed;
 pub use body::body_digest;
 pub use counts::Counts;
+pub use encoding::{EncodeError, encode};
 pub use nr_spec_counts::Cause;
 pub use numbers::FileNumbers;

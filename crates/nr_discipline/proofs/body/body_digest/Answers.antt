@@ -1,5 +1,5 @@
 use Rattle.nr_discipline.proofs.body.body_digest.Goals as goal
-use Rattle.std.proofs.Common.{◌≡◌, ◌++◌, [], List, ℕ, length, subst, ap, sym, ◌∙◌}
+use Rattle.std.proofs.Common.{◌≡◌, ◌++◌, [], subst, ap, ◌∙◌}
 use Rattle.std.specs.List.{flat_map}
 use Rattle.byteorder.specs.Endian.{big_bytes}
 use Rattle.sha2.specs.Sha256.{sha256}

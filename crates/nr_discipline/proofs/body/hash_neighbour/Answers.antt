@@ -1,4 +1,4 @@
-use Rattle.std.proofs.Common.{◌≡◌, ◌++◌}
+use Rattle.std.proofs.Common.{◌++◌}
 use Rattle.byteorder.specs.Endian.{big_bytes}
 use Rattle.nr_spec_counts.specs.Bodies.{oldest_bytes}
 use Rattle.nr_discipline.proofs.Pieces.{both}

@@ -1,5 +1,5 @@
 use Rattle.nr_discipline.proofs.body.hash_row.Goals as goal
-use Rattle.std.proofs.Common.{◌≡◌, ◌++◌, List, ℕ, length, subst, ap, ◌∙◌}
+use Rattle.std.proofs.Common.{◌≡◌, ◌++◌, length, subst, ap, ◌∙◌}
 use Rattle.byteorder.specs.Endian.{big_bytes}
 use Rattle.nr_spec_entry.specs.Contents.{flag}
 use Rattle.nr_spec_counts.specs.Bodies.{row_bytes}

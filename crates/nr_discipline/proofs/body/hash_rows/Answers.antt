@@ -1,5 +1,5 @@
 use Rattle.nr_discipline.proofs.body.hash_rows.Goals as goal
-use Rattle.std.proofs.Common.{◌≡◌, ◌++◌, ◌∷◌, List, ℕ, append_assoc, ap, sym, ◌∙◌}
+use Rattle.std.proofs.Common.{◌≡◌, ◌++◌, ◌∷◌, List, append_assoc, ap, sym, ◌∙◌}
 use Rattle.std.specs.List.{flat_map}
 use Rattle.std.proofs.lemmas.Map.Iter.{rest_more}
 use Rattle.nr_spec_routes.specs.Keys.{Row}

@@ -1,5 +1,5 @@
 use Rattle.nr_discipline.proofs.counts.Counts.lowest_overdue.Goals as goal
-use Rattle.std.proofs.Common.{◌≡◌, sym, ◌∙◌, arith}
+use Rattle.std.proofs.Common.{sym, ◌∙◌, arith}
 use Rattle.nr_spec_counts.specs.Causes.{is_overdue, lowest_overdue}
 use Rattle.nr_discipline.proofs.Lowest.{found_here, found_nowhere, from_start, passed_over}
 

@@ -1,5 +1,5 @@
 use Rattle.nr_discipline.proofs.counts.Counts.lowest_overdue.Given as goal
-use Rattle.std.proofs.Common.{◌≡◌, ◌-◌, ◌≤◌}
+use Rattle.std.proofs.Common.{◌≡◌, ◌-◌}
 use Rattle.std.specs.List.{find, range_with_len}
 use Rattle.nr_spec_counts.specs.Tallies.{Tally}
 use Rattle.nr_spec_counts.specs.Causes.{is_overdue, lowest_overdue}

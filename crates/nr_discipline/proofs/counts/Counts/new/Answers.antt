@@ -1,4 +1,4 @@
-use Rattle.std.proofs.Common.{◌≡◌, List, ℕ, Option, None, slice_index, slice_index_or, refl, ap, ◌∙◌}
+use Rattle.std.proofs.Common.{List, ℕ, Option, None, slice_index, slice_index_or, refl, ap, ◌∙◌}
 use Rattle.std.proofs.lemmas.List.{get_or-replicate}
 use Rattle.nr_discipline.proofs.counts.Counts.new.Goals as goal
 

@@ -1,5 +1,5 @@
 use Rattle.nr_discipline.proofs.counts.Counts.step.Goals as goal
-use Rattle.std.proofs.Common.{◌≡◌, ◌++◌, [], ◌∷◌, sym, subst}
+use Rattle.std.proofs.Common.{sym, subst}
 use Rattle.nr_spec_counts.specs.Steps.{counted}
 use Rattle.nr_spec_counts.proofs.OneMore.{one_counted}
 use Rattle.nr_spec_counts.specs.Tallies.{tally_after}
