@@ -1,5 +1,5 @@
 //! Laws of the definitions of BGP: what a reader of them may rely on. Each is the contract of a function
-//! with no parameters and an empty body; no crate stands on this one.
+//! with no parameters and an empty body; no crate of code stands on this one.
 #![tactic(auto)]
 
 mod grammar;
