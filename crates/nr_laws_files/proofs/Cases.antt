@@ -1,9 +1,9 @@
 -- The steps of a reading that was refused.
 use Rattle.std.proofs.Common.{◌≡◌, ℕ, ◌+◌, ◌<◌, ◌≤◌, Bool, true, false, cond, ltb, List, length, take, drop, Result, Ok, Err, ◌⊎◌, inl, inr, refl, sym, ap, subst, ◌∙◌, arith, length-drop, length-take}
-use Rattle.std.proofs.lemmas.Bool.{ltb-true, ltb-false}
+use Rattle.std.proofs.lemmas.Bool.{ltb-true, ltb-false, lt-ltb, le-ltb}
 use Rattle.std.proofs.lemmas.List.{drop-drop, take-append-drop, get_or-drop}
 use Rattle.byteorder.specs.Endian.{big_number}
-use Rattle.nr_spec_wire.specs.Reading.{Spot, ◌>>=◌, past, number_at, bytes_at, wants, IsBytes}
+use Rattle.nr_spec_wire.specs.Reading.{Spot, Read, ◌>>=◌, past, number_at, bytes_at, wants, IsBytes}
 use Rattle.nr_spec_wire.proofs.Steps.{ok_is}
 use Rattle.nr_laws_log.specs.Laws.{Takes}
 use Rattle.nr_laws_files.specs.Cuts.{IsCut}
@@ -140,3 +140,59 @@ pub bytes_stand : (s t : Spot) (k n : ℕ) (x : List ℕ × Spot) → Stands s k
 bytes_stand s t k n x h e =
     let c = field_fine (ltb (length t.rest) n) t.at (take n t.rest, past n t) x e in
     subst (λ (y : List ℕ × Spot). (y.0 ≡ take n (drop k s.rest)) × Stands s (k + n) y.1) c.1 (ap (take n) h.rest_is, stands_past s t k n h (ltb-false _ _ c.0))
+
+-- ---- and the other way: a field that is cut off is refused there, and one that isn't is read
+
+pub then_err : {A B : Type 0} (r : Result A ℕ) (f : A → Result B ℕ) (x : A) (p : ℕ) → r ≡ Ok x → f x ≡ Err p → (r >>= f) ≡ Err p
+then_err r f x p e g = ap (λ q. q >>= f) e ∙ g
+
+pub wants_then : {A B : Type 0} (b : Bool) (place : ℕ) (x : A) (f : A → Result B ℕ) (p : ℕ) → b ≡ true → f x ≡ Err p → (wants b place x >>= f) ≡ Err p
+wants_then true place x f p e g = g
+wants_then false place x f p e g = absurd cc
+
+pub wants_fails : {A B : Type 0} (b : Bool) (place : ℕ) (x : A) (f : A → Result B ℕ) (p : ℕ) → b ≡ false → place ≡ p → (wants b place x >>= f) ≡ Err p
+wants_fails {B = B} false place x f p e g = ap (λ (n : ℕ). failed {A = B} n) g
+wants_fails true place x f p e g = absurd cc
+
+short_then : {A B : Type 0} (b : Bool) (d p : ℕ) (x : A) (f : A → Result B ℕ) → b ≡ true → d ≡ p → (cond b (failed d) (Ok x) >>= f) ≡ Err p
+short_then {B = B} true d p x f e g = ap (λ (n : ℕ). failed {A = B} n) g
+short_then false d p x f e g = absurd cc
+
+short_of : (s t : Spot) (k n : ℕ) → Stands s k t → IsCut s.rest k n → ltb (length t.rest) n ≡ true
+short_of s t k n h c = lt-ltb _ _ (omega (arith, ap length h.rest_is, length-drop k s.rest, c.ends, c.reaches))
+
+pub number_short : {B : Type 0} (s t : Spot) (k n : ℕ) (f : ℕ × Spot → Result B ℕ) → Stands s k t → IsCut s.rest k n → (number_at n t >>= f) ≡ Err (s.at + k)
+number_short s t k n f h c = short_then (ltb (length t.rest) n) t.at (s.at + k) (big_number n t.rest, past n t) f (short_of s t k n h c) h.at_is
+
+pub bytes_short : {B : Type 0} (s t : Spot) (k n : ℕ) (f : List ℕ × Spot → Result B ℕ) → Stands s k t → IsCut s.rest k n → (bytes_at n t >>= f) ≡ Err (s.at + k)
+bytes_short s t k n f h c = short_then (ltb (length t.rest) n) t.at (s.at + k) (take n t.rest, past n t) f (short_of s t k n h c) h.at_is
+
+enough_of : (s t : Spot) (k n : ℕ) → Stands s k t → k + n ≤ length s.rest → n ≤ length t.rest
+enough_of s t k n h long = omega (arith, ap length h.rest_is, length-drop k s.rest, long)
+
+pub record Long {A : Type 0} (s : Spot) (k n : ℕ) (value : A) (r : Read A) : Type 0 where
+  pub next : Spot
+  pub is : r ≡ Ok (value, next)
+  pub stands : Stands s (k + n) next
+
+long_of : {A : Type 0} (b : Bool) (d : ℕ) (x : A) → b ≡ false → cond b (failed d) (Ok x) ≡ Ok x
+long_of false d x e = refl
+long_of true d x e = absurd cc
+
+pub number_long : (s t : Spot) (k n : ℕ) → Stands s k t → k + n ≤ length s.rest → Long s k n (big_number n (drop k s.rest)) (number_at n t)
+number_long s t k n h long =
+    let enough = enough_of s t k n h long in
+    record {
+      next = past n t;
+      is = long_of (ltb (length t.rest) n) t.at (big_number n t.rest, past n t) (le-ltb _ _ enough) ∙ ap (λ (v : List ℕ). let r : Read ℕ = Ok (big_number n v, past n t) in r) h.rest_is;
+      stands = stands_past s t k n h enough;
+    }
+
+pub bytes_long : (s t : Spot) (k n : ℕ) → Stands s k t → k + n ≤ length s.rest → Long s k n (take n (drop k s.rest)) (bytes_at n t)
+bytes_long s t k n h long =
+    let enough = enough_of s t k n h long in
+    record {
+      next = past n t;
+      is = long_of (ltb (length t.rest) n) t.at (take n t.rest, past n t) (le-ltb _ _ enough) ∙ ap (λ (v : List ℕ). let r : Read (List ℕ) = Ok (take n v, past n t) in r) h.rest_is;
+      stands = stands_past s t k n h enough;
+    }

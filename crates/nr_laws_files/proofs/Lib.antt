@@ -3,3 +3,4 @@ pub mod AuthCases
 pub mod EntryCases
 pub mod AnswerCases
 pub mod PartBytes
+pub mod AuthAgain
