@@ -1,5 +1,5 @@
 -- Prefixes in order without repetition are those in order and each once.
-use Rattle.std.proofs.Common.{◌≡◌, ◌==◌, ℕ, Bool, true, false, cond, ◌&&◌, ◌||◌, List, [], ◌∷◌, Option, Some, None, refl, ap, sym, subst, ◌∙◌, arith}
+use Rattle.std.proofs.Common.{◌≡◌, Bool, true, false, cond, ◌||◌, List, [], ◌∷◌, Option, Some, None, refl, ap, sym, ◌∙◌, arith}
 use Rattle.std.specs.Prelude.{map}
 use Rattle.std.specs.List.{AllByRecursion}
 use Rattle.std.specs.List.Sorted.{IsStrictlySortedBy}
@@ -9,7 +9,7 @@ use Rattle.std.specs.declared.cmp.Ordering.{Ordering}
 use Rattle.std.specs.declared.cmp.Ordering.TheVariants.{Less, Equal, Greater}
 use Rattle.std.proofs.lemmas.Bool.Decides.{nat_tests}
 use Rattle.nr_spec_bgp.specs.Prefixes.{Cidr}
-use Rattle.nr_spec_routes.specs.Keys.{Key, Row, AreAscending, cidr_cmp, key_cmp, direction_cmp, is_named, each_once, prefixes_in, standing}
+use Rattle.nr_spec_routes.specs.Keys.{Key, Row, AreAscending, cidr_cmp, key_cmp, direction_cmp, is_named, prefixes_in, standing}
 use Rattle.nr_spec_routes.proofs.Once.{only_once}
 use Rattle.nr_spec_routes.proofs.KeyOrder.{cidrs_total}
 use Rattle.nr_tables.specs.Others.{is_last, others}

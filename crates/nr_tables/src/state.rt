@@ -78,8 +78,9 @@ impl State {
         attrs: &Attrs<'_>,
     ) -> Result<State, Memory>
         requires { length attrs.now.block < 2 ^ 16 }
-        ensures { IfOk result (λ new. (q : keys.Key) → route_in new q
+        ensures routes { IfOk result (λ new. (q : keys.Key) → route_in new q
             ≡ (if is_eq (key_cmp (record { prefix = prefix; direction = direction; neighbour = neighbour }) q) then Some attrs.now else route_in self q)) }
+        ensures order { IfOk result (λ new. AreAscending new) }
     {
         let State { alloc, mut table } = self;
         let key = Key {
@@ -88,6 +89,7 @@ impl State {
             neighbour,
         };
         table.put(key, Route::copy_of(alloc, attrs)?)?;
+        table.len();
         Ok(State { alloc, table })
     }
 
