@@ -1,9 +1,6 @@
-pub mod InputLemmas
-pub mod UnreadLemmas
-pub mod ShownLemmas
+pub mod PlanSteps
+pub mod WholeRuns
 pub mod LinkLemmas
 pub mod WordLemmas
 pub mod AuditWordLemmas
 pub mod ReportLemmas
-pub mod WritingLemmas
-pub mod KeyLemmas

@@ -1,16 +1,16 @@
--- What the program answers: from its words and what the files hold to a status and a text.
-use Rattle.std.specs.Prelude.{ℕ, nat_le, if◌then◌else◌, List, [], ◌∷◌, length, Option, None, Some, Result, Ok, Err, codes}
+-- What the program does: from its words to a plan over files, which gives a status and a text.
+use Rattle.std.specs.Prelude.{ℕ, nat_le, if◌then◌else◌, List, [], ◌∷◌, Option, None, Some, Result, Ok, Err, codes}
 use Rattle.std.specs.Fmt.{decimal}
 use Rattle.hex.specs.Hex.{encode_lower}
-use Rattle.nr_spec_wire.specs.Reading.{◌>>=◌}
 use Rattle.nr_spec_log.specs.Authenticator.{Authenticator, auths_of}
-use Rattle.nr_spec_log.specs.Answer.{AnswerFile, answer_of}
+use Rattle.nr_spec_log.specs.Answer.{answer_of}
 use Rattle.nr_spec_history.specs.KeyFiles.{Key, seed_of, key_file, key_root}
 use Rattle.nr_rule_syntax.specs.Printing.{file_text}
 use Rattle.nr_spec_history.specs.Report.{Fact, Form, Network, Unsigned, Head, Short, outcome, line, report_text}
-use Rattle.nr_ports.specs.Ports.{Contents}
+use Rattle.nr_spec_plans.specs.Disk.{Fault, ReadFault, WriteFault, Memory}
+use Rattle.nr_spec_plans.specs.Plans.{Plan, Done, Refuse, Room, act, want, Ask, Read, save, ◌>>=◌}
 use Rattle.netreview.specs.Promises.{PromiseFile, promise_of}
-use Rattle.netreview.specs.Words.{AuditRequest, KeygenRequest, Request, Audit, Keygen, Check, request_in}
+use Rattle.netreview.specs.Words.{AuditRequest, CheckRequest, KeygenRequest, Request, Audit, Keygen, Check, request_in}
 
 -- ---- input files
 
@@ -46,52 +46,28 @@ pub data Refusal : Type 0 where
   -- what the files say refuses the audit
   Refused : (fact : Fact) → Refusal
 
--- the bytes of an input file that is there and within its limit
-abbrev pub present : Input → Option (List ℕ) → Result (List ℕ) Refusal
-present input None = Err (NoFile input)
-present input (Some bytes) = if nat_le (length bytes) (input_limit input) then Ok bytes else Err (Limit input (length bytes))
+-- ---- reading input files
+
+-- a plan of this program
+abbrev pub Work : Type 0 → Type 0
+Work A = Plan Refusal A
+
+-- the size of a file that is there and within its limit
+abbrev pub sized : Input → Option ℕ → Work ℕ
+sized input None = Refuse (NoFile input)
+sized input (Some found) = if nat_le found (input_limit input) then Done found else Refuse (Limit input found)
+
+-- Asks for an input file, and reads it in whole where it is there and within its limit.
+unfoldable pub load : Input → (name : List ℕ) → Work (List ℕ)
+load input name = do
+  answer ← act (Ask name)
+  size ← sized input answer
+  act (Read name size)
 
 -- what a file that is in its grammar holds
-abbrev pub well_formed : {A : Type 0} → Input → Result A ℕ → Result A Refusal
-well_formed input (Ok value) = Ok value
-well_formed input (Err place) = Err (Malformed input place)
-
-abbrev pub judged : {A : Type 0} → Result A Fact → Result A Refusal
-judged (Ok value) = Ok value
-judged (Err fact) = Err (Refused fact)
-
--- what a promise file says
-unfoldable pub promise_by : Option (List ℕ) → Result PromiseFile Refusal
-promise_by file = do
-  text ← present PromiseInput file
-  well_formed PromiseInput (promise_of text)
-
--- The first refusal, or the conflicts, by the promise file, the answer file and the authenticator file.
-unfoldable pub audit_by : AuditRequest → Option (List ℕ) → Option (List ℕ) → Option (List ℕ) → Result (List Authenticator) Refusal
-audit_by q promise_file answer_file auths_file = do
-  promise ← promise_by promise_file
-  answer_bytes ← present AnswerInput answer_file
-  answer ← well_formed AnswerInput (answer_of answer_bytes)
-  auths_bytes ← present AuthsInput auths_file
-  auths ← well_formed AuthsInput (auths_of auths_bytes)
-  judged (outcome q.root promise.says.network answer q.period auths)
-
--- the first refusal, or the key that is made, by the seed file
-unfoldable pub keygen_by : KeygenRequest → Option (List ℕ) → Result Key Refusal
-keygen_by q seed_file = do
-  seed_bytes ← present SeedInput seed_file
-  seed ← well_formed SeedInput (seed_of seed_bytes)
-  Ok (record { asn = q.asn; height = q.height; seed = seed })
-
--- the same by the names of the files
-abbrev pub promise_in : Contents → List ℕ → Result PromiseFile Refusal
-promise_in held name = promise_by (held name)
-
-abbrev pub audit_of : Contents → AuditRequest → Result (List Authenticator) Refusal
-audit_of held q = audit_by q (held q.promise) (held q.answer) (held q.auths)
-
-abbrev pub keygen_of : Contents → KeygenRequest → Result Key Refusal
-keygen_of held q = keygen_by q (held q.seed)
+abbrev pub well_formed : {A : Type 0} → Input → Result A ℕ → Work A
+well_formed input (Ok value) = Done value
+well_formed input (Err place) = Refuse (Malformed input place)
 
 -- ---- endings
 
@@ -129,21 +105,10 @@ key_ending key = record { status = 0; text = line (codes "root" ∷ encode_lower
 unfoldable pub promise_ending : PromiseFile → Ending
 promise_ending promise = record { status = 0; text = file_text promise.file }
 
--- the report where nothing refuses it
-abbrev pub concluded : Result (List Authenticator) Refusal → Result Ending Refusal
-concluded found = found >>= λ conflicts. Ok (report_ending conflicts)
-
--- the root where a key is made
-abbrev pub made : Result Key Refusal → Result Ending Refusal
-made found = found >>= λ key. Ok (key_ending key)
-
--- the canonical text where the file says something
-abbrev pub printed : Result PromiseFile Refusal → Result Ending Refusal
-printed found = found >>= λ promise. Ok (promise_ending promise)
-
-abbrev pub ended : Result Ending Refusal → Ending
-ended (Ok ending) = ending
-ended (Err refusal) = refusal_ending refusal
+-- the report, where no fact refuses the audit
+abbrev pub concluded : Result (List Authenticator) Fact → Work Ending
+concluded (Ok conflicts) = Done (report_ending conflicts)
+concluded (Err fact) = Refuse (Refused fact)
 
 abbrev pub usage_ending : Ending
 usage_ending = record { status = 2; text = line (codes "usage" ∷ []) }
@@ -157,76 +122,63 @@ write_fault_ending = record { status = 5; text = line (codes "write" ∷ codes "
 abbrev pub memory_ending : Ending
 memory_ending = record { status = 6; text = line (codes "memory" ∷ []) }
 
--- what each command gives: its ending, or the first refusal
-abbrev pub decided : Contents → Request → Result Ending Refusal
-decided held (Audit q) = concluded (audit_of held q)
-decided held (Keygen q) = made (keygen_of held q)
-decided held (Check q) = printed (promise_in held q.promise)
+-- the ending of a fault
+abbrev pub fault_ending : Fault → Ending
+fault_ending ReadFault = read_fault_ending
+fault_ending WriteFault = write_fault_ending
+fault_ending Memory = memory_ending
 
-abbrev pub answered : Contents → Option Request → Ending
-answered held None = usage_ending
-answered held (Some request) = ended (decided held request)
+-- ---- commands
 
--- what the words and the files give
-abbrev pub run_of : Contents → List (List ℕ) → Ending
-run_of held words = answered held (request_in words)
+-- what a promise file says
+unfoldable pub promise_plan : (name : List ℕ) → Work PromiseFile
+promise_plan name = do
+  text ← load PromiseInput name
+  Room (well_formed PromiseInput (promise_of text))
 
--- ---- files that are written
+-- the canonical text of a promise file
+unfoldable pub check_plan : CheckRequest → Work Ending
+check_plan q = do
+  promise ← promise_plan q.promise
+  room ← want
+  Done (promise_ending promise)
 
-pub record Output : Type 0 where
-  pub name : List ℕ
-  pub bytes : List ℕ
+-- The conflicts of an answer, or the first thing that refuses them. No file is asked for after one that is refused.
+unfoldable pub audit_plan : AuditRequest → Work Ending
+audit_plan q = do
+  promise ← promise_plan q.promise
+  answer_bytes ← load AnswerInput q.answer
+  answer ← well_formed AnswerInput (answer_of answer_bytes)
+  auths_bytes ← load AuthsInput q.auths
+  auths ← well_formed AuthsInput (auths_of auths_bytes)
+  Room (concluded (outcome q.root promise.says.network answer q.period auths))
 
-abbrev pub key_output : List ℕ → Result Key Refusal → Option Output
-key_output name (Ok key) = Some (record { name = name; bytes = key_file key })
-key_output name (Err refusal) = None
+-- the key that is asked for, by the seed file
+unfoldable pub key_plan : KeygenRequest → Work Key
+key_plan q = do
+  bytes ← load SeedInput q.seed
+  seed ← well_formed SeedInput (seed_of bytes)
+  Done (record { asn = q.asn; height = q.height; seed = seed })
 
--- the file that each command writes
-abbrev pub output_of : Contents → Request → Option Output
-output_of held (Audit q) = None
-output_of held (Keygen q) = key_output q.key (keygen_of held q)
-output_of held (Check q) = None
+-- The key file is written after all that is wanted of memory.
+unfoldable pub keygen_plan : KeygenRequest → Work Ending
+keygen_plan q = do
+  key ← key_plan q
+  room ← want
+  saved ← save q.key (key_file key)
+  Done (key_ending key)
 
-abbrev pub output_in : Contents → Option Request → Option Output
-output_in held None = None
-output_in held (Some request) = output_of held request
+-- the table of commands
+unfoldable pub plan_of : Request → Work Ending
+plan_of (Audit q) = audit_plan q
+plan_of (Keygen q) = keygen_plan q
+plan_of (Check q) = check_plan q
 
--- ---- files that are asked for
+-- what a request asks to be done, or the usage
+abbrev pub plan_in : Option Request → Work Ending
+plan_in None = Done usage_ending
+plan_in (Some request) = plan_of request
 
--- what comes behind a step that isn't refused
-abbrev pub behind : {A : Type 0} → Result A Refusal → List (List ℕ) → List (List ℕ)
-behind (Ok value) names = names
-behind (Err refusal) names = []
-
--- what the answer file of this name says
-abbrev pub answer_in : Contents → List ℕ → Result AnswerFile Refusal
-answer_in held name = present AnswerInput (held name) >>= λ bytes. well_formed AnswerInput (answer_of bytes)
-
--- The names that each command may ask for: the input files of its request in their order, each behind those before it.
-abbrev pub asks_of : Contents → Request → List (List ℕ)
-asks_of held (Audit q) = q.promise ∷ behind (promise_in held q.promise) (q.answer ∷ behind (answer_in held q.answer) (q.auths ∷ []))
-asks_of held (Keygen q) = q.seed ∷ []
-asks_of held (Check q) = q.promise ∷ []
-
-abbrev pub asks_in : Contents → Option Request → List (List ℕ)
-asks_in held None = []
-asks_in held (Some request) = asks_of held request
-
--- A file is read where it is there and within its limit.
-abbrev pub read_first : Input → Contents → List ℕ → List (List ℕ) → List (List ℕ)
-read_first input held name others = behind (present input (held name)) (name ∷ others)
-
--- the names whose bytes each command reads
-abbrev pub reads_of : Contents → Request → List (List ℕ)
-reads_of held (Audit q) =
-    read_first PromiseInput held q.promise
-    (behind (promise_in held q.promise)
-    (read_first AnswerInput held q.answer
-    (behind (answer_in held q.answer)
-    (read_first AuthsInput held q.auths []))))
-reads_of held (Keygen q) = read_first SeedInput held q.seed []
-reads_of held (Check q) = read_first PromiseInput held q.promise []
-
-abbrev pub reads_in : Contents → Option Request → List (List ℕ)
-reads_in held None = []
-reads_in held (Some request) = reads_of held request
+-- what is done for the words
+abbrev pub plan_for : List (List ℕ) → Work Ending
+plan_for words = Room (plan_in (request_in words))

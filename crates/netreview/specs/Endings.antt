@@ -1,15 +1,12 @@
 -- What the endings of the code stand for in the definitions.
-use Rattle.std.specs.Prelude.{◌≡◌, ℕ, List, Option, Result}
+use Rattle.std.specs.Prelude.{◌≡◌, ℕ, List}
 use Rattle.std.specs.List.{flat_map}
 use Rattle.nr_spec_log.specs.Authenticator.{Authenticator}
 use Rattle.nr_spec_history.specs.Report.{conflict_line}
 use Rattle.nr_spec_history.specs.KeyFiles.{Key}
 use Rattle.nr_lamport.specs.declared.seed.Seed.{Seed}
 use Rattle.netreview.specs.declared.key_request.KeygenRequest.{KeygenRequest}
-use Rattle.netreview.specs.Words as words
 use Rattle.netreview.specs.Command as command
-use Rattle.netreview.specs.declared.refusal.Stop.{Stop}
-use Rattle.netreview.specs.Views.{Decides, Shows}
 use Rattle.netreview.specs.declared.ending.Ending as declared_ending
 use Rattle.netreview.specs.declared.ending.Fixed as declared_fixed
 
@@ -26,10 +23,3 @@ key_of q seed = record { asn = q.asn; height = q.height; seed = seed.0 }
 -- the ending of the report whose conflicts have these lines
 abbrev pub Reports : List ℕ → command.Ending → Type 0
 Reports lines e = (conflicts : List Authenticator) → lines ≡ flat_map conflict_line conflicts → e ≡ command.report_ending conflicts
-
--- What a command gives is what the definition gives by some input files, whatever the files tell.
-abbrev pub ShowsAnswer : words.Request → Result declared_ending.Ending Stop → Type 0
-ShowsAnswer (words.Audit q) result =
-    (promise : Option (List ℕ)) × (answer : Option (List ℕ)) × (auths : Option (List ℕ)) × Decides ending_of result (command.concluded (command.audit_by q promise answer auths))
-ShowsAnswer (words.Keygen q) result = Shows ending_of result (λ seed. command.made (command.keygen_by q seed))
-ShowsAnswer (words.Check q) result = Shows ending_of result (λ promise. command.printed (command.promise_by promise))

@@ -1,8 +1,9 @@
 -- What this crate's types stand for in the definitions.
-use Rattle.std.specs.Prelude.{◌≡◌, ◌≢◌, ℕ, List, Option, Result, Ok, Err}
+use Rattle.std.specs.Prelude.{◌≡◌, ℕ, List, Result, Ok, Err}
 use Rattle.nr_spec_history.specs.Report as report
 use Rattle.nr_lamport.specs.declared.seed.Seed.{Seed}
-use Rattle.nr_ports.specs.Ports.{Rose}
+use Rattle.nr_spec_plans.specs.Disk as disk
+use Rattle.nr_spec_plans.specs.Plans as plans
 use Rattle.nr_ports.specs.declared.fault.ReadFault.{ReadFault}
 use Rattle.nr_ports.specs.declared.fault.ReadFault.TheVariants as read
 use Rattle.nr_ports.specs.declared.fault.WriteFault.{WriteFault}
@@ -14,7 +15,6 @@ use Rattle.nr_rule_types.specs.declared.fault.TypeError.TheVariants as typing
 use Rattle.netreview.specs.Command as command
 use Rattle.netreview.specs.Promises as promises
 use Rattle.netreview.specs.declared.promise_file.PromiseFile as declared_promise
-use Rattle.netreview.specs.declared.ending.Ending as declared_ending
 use Rattle.netreview.specs.declared.input.Input.{Input}
 use Rattle.netreview.specs.declared.input.Input.TheVariants as input
 use Rattle.netreview.specs.declared.refusal.Fact.{Fact}
@@ -69,44 +69,31 @@ abbrev pub halt_of : WriteFault → Stop
 halt_of write.Failed = stop.WriteFault
 halt_of write.Memory = stop.Memory
 
--- A step gives what the definition's step gives, its value or its refusal. A fault and want of memory say
--- nothing of it.
-abbrev pub Decides : {X Y : Type 0} → (X → Y) → Result X Stop → Result Y command.Refusal → Type 0
-Decides view (Ok x) decided = decided ≡ Ok (view x)
-Decides view (Err (stop.Refused r)) decided = decided ≡ Err (refusal_of r)
-Decides view (Err stop.ReadFault) decided = Unit {0}
-Decides view (Err stop.WriteFault) decided = Unit {0}
-Decides view (Err stop.Memory) decided = Unit {0}
+-- why a plan gave no value
+abbrev pub why : Stop → plans.Halt command.Refusal
+why (stop.Refused r) = plans.Refused (refusal_of r)
+why stop.ReadFault = plans.Faulted disk.ReadFault
+why stop.WriteFault = plans.Faulted disk.WriteFault
+why stop.Memory = plans.Faulted disk.Memory
 
--- A step gives what the definition's step gives by some file, whatever the files tell.
-abbrev pub Shows : {X Y : Type 0} → (X → Y) → Result X Stop → (Option (List ℕ) → Result Y command.Refusal) → Type 0
-Shows view result by = (file : Option (List ℕ)) × Decides view result (by file)
+-- what a step gave
+abbrev pub gave : {X Y : Type 0} → (X → Y) → Result X Stop → Result Y (plans.Halt command.Refusal)
+gave view (Ok x) = Ok (view x)
+gave view (Err e) = Err (why e)
 
--- The same of a step that reads no file and takes no memory.
-abbrev pub Settles : {X Y : Type 0} → (X → Y) → Result X Refusal → Result Y command.Refusal → Type 0
-Settles view (Ok x) decided = decided ≡ Ok (view x)
-Settles view (Err r) decided = decided ≡ Err (refusal_of r)
+-- A step does what the plan does, and gives what the plan gives.
+abbrev pub Does : {X Y : Type 0} → (X → Y) → command.Work Y → disk.Disk → disk.Disk → Result X Stop → Type 0
+Does view plan old new result = plans.Runs plan old new (gave view result)
 
--- The count of read faults rose exactly where a step ended by one.
-abbrev pub CountsReads : {X : Type 0} → ℕ → ℕ → Result X Stop → Type 0
-CountsReads before now (Ok x) = now ≡ before
-CountsReads before now (Err (stop.Refused r)) = now ≡ before
-CountsReads before now (Err stop.ReadFault) = Rose before now
-CountsReads before now (Err stop.WriteFault) = now ≡ before
-CountsReads before now (Err stop.Memory) = now ≡ before
+-- A step that reads no file and takes no memory gives what the definition gives, its value or its refusal.
+abbrev pub Settles : {X Y : Type 0} → (X → Y) → Result X Refusal → command.Work Y → Type 0
+Settles view (Ok x) plan = plan ≡ plans.Done (view x)
+Settles view (Err r) plan = plan ≡ plans.Refuse (refusal_of r)
 
--- The count of write faults rose exactly where a step ended by one.
-abbrev pub CountsWrites : {X : Type 0} → ℕ → ℕ → Result X Stop → Type 0
-CountsWrites before now (Ok x) = now ≡ before
-CountsWrites before now (Err (stop.Refused r)) = now ≡ before
-CountsWrites before now (Err stop.ReadFault) = now ≡ before
-CountsWrites before now (Err stop.WriteFault) = Rose before now
-CountsWrites before now (Err stop.Memory) = now ≡ before
-
--- It holds where a step was refused or ended by a read fault, and where its ending has another status than 0.
-abbrev pub Unchanged : Result declared_ending.Ending Stop → Type 0 → Type 0
-Unchanged (Ok e) P = e.status ≢ 0 → P
-Unchanged (Err (stop.Refused r)) P = P
-Unchanged (Err stop.ReadFault) P = P
-Unchanged (Err stop.WriteFault) P = Unit {0}
-Unchanged (Err stop.Memory) P = Unit {0}
+-- The same of a step that may want memory.
+abbrev pub Judges : {X Y : Type 0} → (X → Y) → Result X Stop → command.Work Y → Type 0
+Judges view (Ok x) plan = plan ≡ plans.Done (view x)
+Judges view (Err (stop.Refused r)) plan = plan ≡ plans.Refuse (refusal_of r)
+Judges view (Err stop.ReadFault) plan = ⊥
+Judges view (Err stop.WriteFault) plan = ⊥
+Judges view (Err stop.Memory) plan = Unit {0}

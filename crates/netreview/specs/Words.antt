@@ -154,25 +154,3 @@ request_in (command ∷ words) =
     else if bytes_eq command (codes "keygen") then keygen_request (command ∷ words)
     else if bytes_eq command (codes "check") then check_request (command ∷ words)
     else None
-
--- the files that a request may ask for
-abbrev pub inputs_of : Request → List (List ℕ)
-inputs_of (Audit q) = q.promise ∷ q.answer ∷ q.auths ∷ []
-inputs_of (Keygen q) = q.seed ∷ []
-inputs_of (Check q) = q.promise ∷ []
-
--- the files that the words allow to be asked for
-abbrev pub inputs_in : Option Request → List (List ℕ)
-inputs_in None = []
-inputs_in (Some request) = inputs_of request
-
--- the files that a request may change
-abbrev pub outputs_of : Request → List (List ℕ)
-outputs_of (Audit q) = []
-outputs_of (Keygen q) = q.key ∷ []
-outputs_of (Check q) = []
-
--- the files that the words allow to be changed
-abbrev pub outputs_in : Option Request → List (List ℕ)
-outputs_in None = []
-outputs_in (Some request) = outputs_of request

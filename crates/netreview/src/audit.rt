@@ -1,15 +1,12 @@
 //! The command `audit`: an answer against the authenticators that were handed in.
 
-ghost use Rattle.std.specs.Prelude.{◌≡◌, ◌≢◌, ◌≤◌, Some, IfOk};
+ghost use Rattle.std.specs.Prelude.{IfOk};
 ghost use Rattle.std.specs.String.{string_bytes};
 ghost use Rattle.nr_spec_history.specs.Report.{outcome};
-ghost use Rattle.nr_ports.specs.Ports.{Contents};
-ghost use Rattle.netreview.specs.Command.{audit_of, concluded, judged, asks_of, reads_of};
-ghost use Rattle.netreview.specs.Words.{Audit, inputs_of};
-ghost use Rattle.netreview.specs.Running.{CountsOnly};
-ghost use Rattle.netreview.specs.Views.{Decides, CountsReads};
+ghost use Rattle.netreview.specs.Command.{audit_plan, concluded};
+ghost use Rattle.netreview.specs.Views.{Does, Judges};
 ghost use Rattle.netreview.specs.Requests.{audit_request_of, period_of};
-ghost use Rattle.netreview.specs.Endings.{ending_of, Reports, ShowsAnswer};
+ghost use Rattle.netreview.specs.Endings.{ending_of, Reports};
 
 use crate::conflicts::conflict_lines;
 use crate::ending::Ending;
@@ -26,8 +23,7 @@ use std::alloc::{AllocError, Global};
 
 // The lines of the conflicts, or the one line `clean` where there are none.
 fn report(alloc: Global, lines: String) -> Result<Ending, AllocError>
-    ensures value { IfOk result (λ e. Reports (string_bytes lines) (ending_of e)) }
-    ensures status { IfOk result (λ e. e.status ≤ 1) }
+    ensures { IfOk result (λ e. Reports (string_bytes lines) (ending_of e)) }
 {
     if lines.as_str().is_empty() {
         return Ok(Ending {
@@ -49,10 +45,7 @@ fn judge(
     answer: &Answer<'_>,
     auths: &Auths<'_>,
 ) -> Result<Ending, Stop>
-    ensures value { Decides ending_of result (concluded (judged (outcome request.now.root.0 network answer.now (period_of request.now.period) auths.now))) }
-    ensures status { IfOk result (λ e. e.status ≤ 1) }
-    ensures reads { result ≢ Err Stop.ReadFault }
-    ensures writes { result ≢ Err Stop.WriteFault }
+    ensures { Judges ending_of result (concluded (outcome request.now.root.0 network answer.now (period_of request.now.period) auths.now)) }
 {
     if answer.first() != 1 {
         return Err(Stop::Refused(Refusal::Refused(Fact::Form)));
@@ -85,25 +78,13 @@ fn judge(
 }
 
 /// What the request gives: the report, or the first thing that stops it.
-#[tactic(auto, unfolding(crate::specs::Command::audit_by))]
+#[tactic(auto, using(nr_spec_plans::proofs::PlanLemmas::planning, crate::proofs::PlanSteps::settling), unfolding(crate::specs::Command::audit_plan, nr_spec_plans::specs::Plans::Runs, nr_spec_plans::specs::Plans::followed_by))]
 pub fn audit<F: Files>(
     alloc: Global,
     files: &mut F,
     request: &AuditRequest<'_>,
 ) -> Result<Ending, Stop>
-    ensures value { (held : Contents) → F.holds files.old ≡ Some held → Decides ending_of result (concluded (audit_of held (audit_request_of request.now))) }
-    ensures shows { ShowsAnswer (Audit (audit_request_of request.now)) result }
-    ensures status { IfOk result (λ e. e.status ≤ 1) }
-    ensures same { F.holds files.new ≡ F.holds files.old }
-    ensures cause { CountsReads (F.read_faults files.old) (F.read_faults files.new) result }
-    ensures writes { F.write_faults files.new ≡ F.write_faults files.old }
-    ensures no_write { result ≢ Err Stop.WriteFault }
-    ensures pending { F.is_pending files.new ≡ F.is_pending files.old }
-    ensures inputs { CountsOnly (inputs_of (Audit (audit_request_of request.now))) (F.asks files.old) (F.asks files.new) }
-    ensures unasked { (held : Contents) → F.holds files.old ≡ Some held
-        → CountsOnly (asks_of held (Audit (audit_request_of request.now))) (F.asks files.old) (F.asks files.new) }
-    ensures unread { (held : Contents) → F.holds files.old ≡ Some held
-        → CountsOnly (reads_of held (Audit (audit_request_of request.now))) (F.reads files.old) (F.reads files.new) }
+    ensures { Does ending_of (audit_plan (audit_request_of request.now)) (F.disk files.old) (F.disk files.new) result }
 {
     let promise = read_promise(alloc, files, request.promise)?;
     let answer_bytes = read_input(alloc, files, Input::Answer, request.answer)?;

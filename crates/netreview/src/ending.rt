@@ -1,7 +1,8 @@
 //! How the program ends: with a status and a text for the sink.
 
-ghost use Rattle.std.specs.Prelude.{◌≡◌, ◌⊎◌, IfOk};
-ghost use Rattle.netreview.specs.Command.{usage_ending, read_fault_ending, write_fault_ending, memory_ending, refusal_ending};
+ghost use Rattle.std.specs.Prelude.{◌≡◌, IfOk};
+ghost use Rattle.nr_spec_plans.specs.Disk as disk;
+ghost use Rattle.netreview.specs.Command.{usage_ending, refusal_ending, fault_ending};
 ghost use Rattle.netreview.specs.Views.{refusal_of};
 ghost use Rattle.netreview.specs.Endings.{fixed_of, ending_of};
 
@@ -35,7 +36,7 @@ pub fn usage() -> Fixed
 
 /// A size or read call failed.
 pub fn read_fault() -> Fixed
-    ensures { fixed_of result ≡ read_fault_ending }
+    ensures { fixed_of result ≡ fault_ending disk.ReadFault }
 {
     Fixed {
         status: 4,
@@ -45,7 +46,7 @@ pub fn read_fault() -> Fixed
 
 /// A write, cut or sync call failed.
 pub fn write_fault() -> Fixed
-    ensures { fixed_of result ≡ write_fault_ending }
+    ensures { fixed_of result ≡ fault_ending disk.WriteFault }
 {
     Fixed {
         status: 5,
@@ -55,7 +56,7 @@ pub fn write_fault() -> Fixed
 
 /// Memory ran out.
 pub fn out_of_memory() -> Fixed
-    ensures { fixed_of result ≡ memory_ending }
+    ensures { fixed_of result ≡ fault_ending disk.Memory }
 {
     Fixed {
         status: 6,
@@ -65,8 +66,7 @@ pub fn out_of_memory() -> Fixed
 
 #[tactic(auto, unfolding(crate::specs::Command::refusal_ending))]
 fn fact_ending(alloc: Global, fact: Fact) -> Result<Ending, AllocError>
-    ensures value { IfOk result (λ e. ending_of e ≡ refusal_ending (refusal_of (Refusal.Refused fact))) }
-    ensures status { IfOk result (λ e. e.status ≡ 7) }
+    ensures { IfOk result (λ e. ending_of e ≡ refusal_ending (refusal_of (Refusal.Refused fact))) }
 {
     let text = match fact {
         Fact::Form => String::from_str(alloc, "refused form answer\n")?,
@@ -90,8 +90,7 @@ fn fact_ending(alloc: Global, fact: Fact) -> Result<Ending, AllocError>
 /// The status and the line of a refusal.
 #[tactic(auto, unfolding(crate::specs::Command::refusal_ending))]
 pub fn refused(alloc: Global, refusal: Refusal) -> Result<Ending, AllocError>
-    ensures value { IfOk result (λ e. ending_of e ≡ refusal_ending (refusal_of refusal)) }
-    ensures status { IfOk result (λ e. (e.status ≡ 3) ⊎ (e.status ≡ 7)) }
+    ensures { IfOk result (λ e. ending_of e ≡ refusal_ending (refusal_of refusal)) }
 {
     match refusal {
         Refusal::NoFile(input) => {

@@ -1,14 +1,12 @@
 //! The command `keygen`: a key file from a seed file.
 
-ghost use Rattle.std.specs.Prelude.{◌≡◌, ◌≢◌, ◌∷◌, [], codes, List, ℕ, Some, None, false, IfOk, OnOk};
+ghost use Rattle.std.specs.Prelude.{◌≡◌, ◌∷◌, [], codes, IfOk};
 ghost use Rattle.std.specs.String.{string_bytes};
 ghost use Rattle.hex.specs.Hex.{encode_lower};
 ghost use Rattle.nr_spec_history.specs.KeyFiles.{key_file, key_root};
 ghost use Rattle.nr_spec_history.specs.Report.{line};
-ghost use Rattle.nr_ports.specs.Ports.{Contents};
-ghost use Rattle.netreview.specs.Command.{keygen_by, keygen_of, made, key_ending, key_output, read_first, SeedInput};
-ghost use Rattle.netreview.specs.Running.{Leaves, MayLeave, CountsOnly};
-ghost use Rattle.netreview.specs.Views.{Decides, Shows, CountsReads, CountsWrites, Unchanged};
+ghost use Rattle.netreview.specs.Command.{keygen_plan, key_plan, key_ending};
+ghost use Rattle.netreview.specs.Views.{Does};
 ghost use Rattle.netreview.specs.Requests.{keygen_request_of};
 ghost use Rattle.netreview.specs.Endings.{ending_of, key_of};
 
@@ -58,8 +56,7 @@ fn root_line(alloc: Global, root: &Digest) -> Result<String, AllocError>
 // The ending of a key.
 #[tactic(auto, unfolding(crate::specs::Command::key_ending))]
 fn key_ending(alloc: Global, request: &KeygenRequest<'_>, seed: &Seed) -> Result<Ending, Memory>
-    ensures value { IfOk result (λ e. ending_of e ≡ key_ending (key_of request.now seed.now)) }
-    ensures status { IfOk result (λ e. e.status ≡ 0) }
+    ensures { IfOk result (λ e. ending_of e ≡ key_ending (key_of request.now seed.now)) }
 {
     let root = key_root(alloc, request, seed)?;
     let text = root_line(alloc, &root)?;
@@ -70,21 +67,13 @@ fn key_ending(alloc: Global, request: &KeygenRequest<'_>, seed: &Seed) -> Result
 }
 
 // The seed of the key that is asked for.
-#[tactic(auto, unfolding(crate::specs::Command::keygen_by))]
+#[tactic(auto, using(nr_spec_plans::proofs::PlanLemmas::planning), unfolding(crate::specs::Command::key_plan, nr_spec_plans::specs::Plans::Runs, nr_spec_plans::specs::Plans::followed_by))]
 fn read_key<F: Files>(
     alloc: Global,
     files: &mut F,
     request: &KeygenRequest<'_>,
 ) -> Result<Seed, Stop>
-    ensures value { (held : Contents) → F.holds files.old ≡ Some held → Decides (key_of request.now) result (keygen_of held (keygen_request_of request.now)) }
-    ensures shows { Shows (key_of request.now) result (keygen_by (keygen_request_of request.now)) }
-    ensures same { F.holds files.new ≡ F.holds files.old }
-    ensures cause { CountsReads (F.read_faults files.old) (F.read_faults files.new) result }
-    ensures writes { F.write_faults files.new ≡ F.write_faults files.old }
-    ensures no_write { result ≢ Err Stop.WriteFault }
-    ensures pending { F.is_pending files.new ≡ F.is_pending files.old }
-    ensures unasked { CountsOnly (request.now.seed.now ∷ []) (F.asks files.old) (F.asks files.new) }
-    ensures unread { (held : Contents) → F.holds files.old ≡ Some held → CountsOnly (read_first SeedInput held request.now.seed.now []) (F.reads files.old) (F.reads files.new) }
+    ensures { Does (key_of request.now) (key_plan (keygen_request_of request.now)) (F.disk files.old) (F.disk files.new) result }
 {
     let bytes = read_input(alloc, files, Input::Seed, request.seed)?;
     Ok(read_seed(&bytes)?)
@@ -92,30 +81,13 @@ fn read_key<F: Files>(
 
 /// What the request gives: the root of the key whose file was written and synced, or the first thing that
 /// stops it. What this program takes of memory it takes before the key file is cut.
+#[tactic(auto, using(nr_spec_plans::proofs::PlanLemmas::planning), unfolding(crate::specs::Command::keygen_plan, nr_spec_plans::specs::Plans::Runs, nr_spec_plans::specs::Plans::followed_by))]
 pub fn keygen<F: Files>(
     alloc: Global,
     files: &mut F,
     request: &KeygenRequest<'_>,
 ) -> Result<Ending, Stop>
-    ensures value { (held : Contents) → F.holds files.old ≡ Some held → Decides ending_of result (made (keygen_of held (keygen_request_of request.now))) }
-    ensures shows { Shows ending_of result (λ seed. made (keygen_by (keygen_request_of request.now) seed)) }
-    ensures status { IfOk result (λ e. e.status ≡ 0) }
-    ensures reads { CountsReads (F.read_faults files.old) (F.read_faults files.new) result }
-    ensures writes { CountsWrites (F.write_faults files.old) (F.write_faults files.new) result }
-    ensures written { (held : Contents) → F.holds files.old ≡ Some held
-        → OnOk result (Leaves held (key_output request.now.key.now (keygen_of held (keygen_request_of request.now))) (F.holds files.new)) }
-    ensures synced { OnOk result (F.is_pending files.new request.now.key.now ≡ false) }
-    ensures same { Unchanged result (F.holds files.new ≡ F.holds files.old) }
-    ensures same_pending { Unchanged result (F.is_pending files.new ≡ F.is_pending files.old) }
-    ensures left { (held : Contents) → F.holds files.old ≡ Some held
-        → MayLeave held (key_output request.now.key.now (keygen_of held (keygen_request_of request.now))) (F.holds files.new) }
-    ensures unwritten { (held : Contents) → F.holds files.old ≡ Some held → key_output request.now.key.now (keygen_of held (keygen_request_of request.now)) ≡ None
-        → F.write_faults files.new ≡ F.write_faults files.old }
-    ensures unpending { (held : Contents) → F.holds files.old ≡ Some held → key_output request.now.key.now (keygen_of held (keygen_request_of request.now)) ≡ None
-        → F.is_pending files.new ≡ F.is_pending files.old }
-    ensures others { (other : List ℕ) → other ≢ request.now.key.now → F.is_pending files.new other ≡ F.is_pending files.old other }
-    ensures unasked { CountsOnly (request.now.seed.now ∷ []) (F.asks files.old) (F.asks files.new) }
-    ensures unread { (held : Contents) → F.holds files.old ≡ Some held → CountsOnly (read_first SeedInput held request.now.seed.now []) (F.reads files.old) (F.reads files.new) }
+    ensures { Does ending_of (keygen_plan (keygen_request_of request.now)) (F.disk files.old) (F.disk files.new) result }
 {
     let seed = read_key(alloc, files, request)?;
     let ending = key_ending(alloc, request, &seed)?;

@@ -1,11 +1,9 @@
 //! Promise files.
 
-ghost use Rattle.std.specs.Prelude.{◌≡◌, ◌≢◌, ◌≤◌, length, Some, [], ◌∷◌};
-ghost use Rattle.nr_ports.specs.Ports.{Contents};
+ghost use Rattle.std.specs.Prelude.{◌≤◌, length};
 ghost use Rattle.netreview.specs.Promises.{promise_of};
-ghost use Rattle.netreview.specs.Command.{promise_by, promise_in, read_first, well_formed, PromiseInput};
-ghost use Rattle.netreview.specs.Running.{CountsOnly};
-ghost use Rattle.netreview.specs.Views.{promise_file_of, Decides, Shows, CountsReads};
+ghost use Rattle.netreview.specs.Command.{promise_plan, well_formed, PromiseInput};
+ghost use Rattle.netreview.specs.Views.{promise_file_of, Does, Judges};
 
 use crate::input::Input;
 use crate::reading::read_input;
@@ -26,9 +24,7 @@ pub struct PromiseFile {
 #[tactic(auto, unfolding(crate::specs::Promises::promise_of))]
 fn promise_from(alloc: Global, text: &[u8]) -> Result<PromiseFile, Stop>
     requires { length text.now ≤ 1048576 }
-    ensures value { Decides promise_file_of result (well_formed PromiseInput (promise_of text.now)) }
-    ensures no_read { result ≢ Err Stop.ReadFault }
-    ensures no_write { result ≢ Err Stop.WriteFault }
+    ensures { Judges promise_file_of result (well_formed PromiseInput (promise_of text.now)) }
 {
     let file = parse(alloc, text)?;
     let says = check(alloc, &file)?;
@@ -36,17 +32,9 @@ fn promise_from(alloc: Global, text: &[u8]) -> Result<PromiseFile, Stop>
 }
 
 /// What the promise file of this name says.
-#[tactic(auto, unfolding(crate::specs::Command::promise_by))]
+#[tactic(auto, using(nr_spec_plans::proofs::PlanLemmas::planning, crate::proofs::PlanSteps::settling), unfolding(crate::specs::Command::promise_plan, nr_spec_plans::specs::Plans::Runs, nr_spec_plans::specs::Plans::followed_by))]
 pub fn read_promise<F: Files>(alloc: Global, files: &mut F, name: &str) -> Result<PromiseFile, Stop>
-    ensures value { (held : Contents) → F.holds files.old ≡ Some held → Decides promise_file_of result (promise_in held name.now) }
-    ensures shows { Shows promise_file_of result promise_by }
-    ensures same { F.holds files.new ≡ F.holds files.old }
-    ensures cause { CountsReads (F.read_faults files.old) (F.read_faults files.new) result }
-    ensures writes { F.write_faults files.new ≡ F.write_faults files.old }
-    ensures no_write { result ≢ Err Stop.WriteFault }
-    ensures pending { F.is_pending files.new ≡ F.is_pending files.old }
-    ensures unasked { CountsOnly (name.now ∷ []) (F.asks files.old) (F.asks files.new) }
-    ensures unread { (held : Contents) → F.holds files.old ≡ Some held → CountsOnly (read_first PromiseInput held name.now []) (F.reads files.old) (F.reads files.new) }
+    ensures { Does promise_file_of (promise_plan name.now) (F.disk files.old) (F.disk files.new) result }
 {
     let text = read_input(alloc, files, Input::Promise, name)?;
     promise_from(alloc, &text)

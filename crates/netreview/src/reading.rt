@@ -1,15 +1,12 @@
 //! Reading an input file in whole.
 
-ghost use Rattle.std.specs.Prelude.{◌≡◌, ◌≢◌, ◌≤◌, length, Some, IfOk, [], ◌∷◌};
 ghost use Rattle.nr_spec_wire.specs.Reading.{Answers};
 ghost use Rattle.nr_spec_log.specs.Answer.{answer_of};
 ghost use Rattle.nr_spec_log.specs.Authenticator.{auths_of};
 ghost use Rattle.nr_spec_history.specs.KeyFiles.{seed_of};
 ghost use Rattle.nr_bytes.specs.Views.{offset_of};
-ghost use Rattle.nr_ports.specs.Ports.{Contents};
-ghost use Rattle.netreview.specs.Command.{present, read_first, input_limit, well_formed, AnswerInput, AuthsInput, SeedInput};
-ghost use Rattle.netreview.specs.Running.{CountsOnly};
-ghost use Rattle.netreview.specs.Views.{input_of, seed_bytes, Decides, Shows, Settles, CountsReads};
+ghost use Rattle.netreview.specs.Command.{load, well_formed, AnswerInput, AuthsInput, SeedInput};
+ghost use Rattle.netreview.specs.Views.{input_of, seed_bytes, Does, Settles};
 
 use crate::input::{Input, limit_of};
 use crate::refusal::{Refusal, Stop};
@@ -20,22 +17,14 @@ use nr_ports::{Files, read_whole};
 use std::alloc::Global;
 
 /// The bytes of an input file that is there and within its limit. Nothing is read of one that isn't.
+#[tactic(auto, using(nr_spec_plans::proofs::PlanLemmas::planning), unfolding(crate::specs::Command::load, nr_spec_plans::specs::Plans::Runs, nr_spec_plans::specs::Plans::followed_by))]
 pub fn read_input<F: Files>(
     alloc: Global,
     files: &mut F,
     input: Input,
     name: &str,
 ) -> Result<Vec<u8>, Stop>
-    ensures value { (held : Contents) → F.holds files.old ≡ Some held → Decides (λ bytes. bytes.items) result (present (input_of input) (held name.now)) }
-    ensures shows { Shows (λ bytes. bytes.items) result (present (input_of input)) }
-    ensures limit { IfOk result (λ bytes. length bytes.items ≤ input_limit (input_of input)) }
-    ensures same { F.holds files.new ≡ F.holds files.old }
-    ensures cause { CountsReads (F.read_faults files.old) (F.read_faults files.new) result }
-    ensures writes { F.write_faults files.new ≡ F.write_faults files.old }
-    ensures no_write { result ≢ Err Stop.WriteFault }
-    ensures pending { F.is_pending files.new ≡ F.is_pending files.old }
-    ensures unasked { CountsOnly (name.now ∷ []) (F.asks files.old) (F.asks files.new) }
-    ensures unread { (held : Contents) → F.holds files.old ≡ Some held → CountsOnly (read_first (input_of input) held name.now []) (F.reads files.old) (F.reads files.new) }
+    ensures { Does (λ bytes. bytes.items) (load (input_of input) name.now) (F.disk files.old) (F.disk files.new) result }
 {
     let Some(found) = files.size(name)? else {
         return Err(Stop::Refused(Refusal::NoFile(input)));
@@ -43,9 +32,7 @@ pub fn read_input<F: Files>(
     if limit_of(input) < found {
         return Err(Stop::Refused(Refusal::Limit { input, found }));
     }
-    let mut bytes = read_whole(alloc, files, name, found)?;
-    bytes.truncate(found as usize);
-    Ok(bytes)
+    Ok(read_whole(alloc, files, name, found)?)
 }
 
 /// What an answer file holds.

@@ -1,9 +1,9 @@
 //! The system's files and standard output. Their contracts are about faults alone: of their content and of crashes
 //! they tell nothing.
 
-ghost use Rattle.std.specs.Prelude.{◌≡◌, ◌≤◌, false, length, IfOk, None};
+ghost use Rattle.std.specs.Prelude.{◌≡◌, ◌≤◌, length, IfOk, None};
 
-use nr_ports::{Failed, Files, Sink, WriteFault};
+use nr_ports::{Failed, Files, Sink, WriteFault, raise};
 use std::alloc::Global;
 use std::fs::{OpenFile, OpenOptions};
 use std::io::{ErrorKind, Read, Seek, SeekFrom, Write};
@@ -161,25 +161,14 @@ impl<'a, R: Disk> SystemFiles<'a, R> {
 }
 
 impl<'a, R: Disk> Files for SystemFiles<'a, R> {
-    ghost holds = { λ _. None };
-
-    ghost read_faults = { λ s. s.read_faults };
-
-    ghost write_faults = { λ s. s.write_faults };
-
-    // Nothing is told of crashes, nor of what was asked: that a caller syncs, and which files it asks for, follows from
-    // what it is for all files.
-    ghost is_pending = { λ _ _. false };
-
-    ghost asks = { λ _ _. 0 };
-
-    ghost reads = { λ _ _. 0 };
+    // Nothing is told of content, of crashes nor of what was asked.
+    ghost disk = { λ s. record { told = None; read_faults = s.read_faults; write_faults = s.write_faults } };
 
     fn size(&mut self, name: &str) -> Result<Option<u64>, Failed> {
         match self.counted(name) {
             Ok(size) => Ok(size),
             Err(_) => {
-                self.read_faults = self.read_faults.saturating_add(1);
+                self.read_faults = raise(1, self.read_faults);
                 Err(Failed)
             }
         }
@@ -189,7 +178,7 @@ impl<'a, R: Disk> Files for SystemFiles<'a, R> {
         match self.read_from(name, at, into) {
             Ok(n) => Ok(n),
             Err(_) => {
-                self.read_faults = self.read_faults.saturating_add(1);
+                self.read_faults = raise(1, self.read_faults);
                 Err(Failed)
             }
         }
@@ -199,7 +188,7 @@ impl<'a, R: Disk> Files for SystemFiles<'a, R> {
         match self.write_from(name, at, from) {
             Ok(()) => Ok(()),
             Err(_) => {
-                self.write_faults = self.write_faults.saturating_add(1);
+                self.write_faults = raise(1, self.write_faults);
                 Err(WriteFault::Failed)
             }
         }
@@ -209,7 +198,7 @@ impl<'a, R: Disk> Files for SystemFiles<'a, R> {
         match self.cut_down(name, len) {
             Ok(()) => Ok(()),
             Err(_) => {
-                self.write_faults = self.write_faults.saturating_add(1);
+                self.write_faults = raise(1, self.write_faults);
                 Err(WriteFault::Failed)
             }
         }
@@ -219,7 +208,7 @@ impl<'a, R: Disk> Files for SystemFiles<'a, R> {
         match self.sync_down(name) {
             Ok(()) => Ok(()),
             Err(_) => {
-                self.write_faults = self.write_faults.saturating_add(1);
+                self.write_faults = raise(1, self.write_faults);
                 Err(WriteFault::Failed)
             }
         }
@@ -240,15 +229,13 @@ impl<W: Write + Drop> Output<W> {
 }
 
 impl<W: Write + Drop> Sink for Output<W> {
-    ghost taken = { λ _. None };
-
-    ghost faults = { λ s. s.faults };
+    ghost tape = { λ s. record { taken = None; faults = s.faults } };
 
     fn write(&mut self, piece: &[u8]) -> Result<usize, WriteFault> {
         match self.writer.write(piece) {
             Ok(n) if 0 < n || piece.is_empty() => Ok(n),
             _ => {
-                self.faults = self.faults.saturating_add(1);
+                self.faults = raise(1, self.faults);
                 Err(WriteFault::Failed)
             }
         }

@@ -1,6 +1,6 @@
 //! Rows through the program: words and files in, a status and a text out.
 
-ghost use Rattle.std.specs.Prelude.{None, false, ◌-◌, ◌^◌};
+ghost use Rattle.std.specs.Prelude.{None, ◌-◌, ◌^◌};
 
 use crate::run::run;
 use nr_bytes::{Memory, put_bytes, put_u8, put_u16, put_u32, put_u64};
@@ -690,9 +690,7 @@ struct OneByte {
 }
 
 impl Sink for OneByte {
-    ghost taken = { λ _. None };
-
-    ghost faults = { λ _. 0 };
+    ghost tape = { λ _. record { taken = None; faults = 0 } };
 
     fn write(&mut self, piece: &[u8]) -> Result<usize, WriteFault> {
         match piece.first() {
@@ -714,17 +712,7 @@ struct TooLong {
 }
 
 impl Files for TooLong {
-    ghost holds = { λ _. None };
-
-    ghost read_faults = { λ _. 2 ^ 64 - 1 };
-
-    ghost write_faults = { λ _. 0 };
-
-    ghost is_pending = { λ _ _. false };
-
-    ghost asks = { λ _ _. 0 };
-
-    ghost reads = { λ _ _. 0 };
+    ghost disk = { λ _. record { told = None; read_faults = 2 ^ 64 - 1; write_faults = 0 } };
 
     fn size(&mut self, name: &str) -> Result<Option<u64>, Failed> {
         if name == self.name {

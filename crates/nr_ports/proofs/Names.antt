@@ -7,7 +7,8 @@ use Rattle.std.proofs.lemmas.Option.{none-some}
 use Rattle.std.proofs.lemmas.Slice.Eq.{bytes_eq-Decides}
 use Rattle.std.proofs.lemmas.List.Quantifiers.{position-Some}
 use Rattle.std.proofs.lemmas.Grind.{common_steps}
-use Rattle.nr_ports.specs.Ports.{Contents, NamedBytes, bytes_of, held_in, with_file, with_held, cut_to, Torn, TornWrite, TornCut, ChangesOnly}
+use Rattle.nr_spec_plans.specs.Disk.{cut_to, TornWrite, TornCut}
+use Rattle.nr_ports.specs.Ports.{NamedBytes, held_in, with_file}
 
 abbrev pub named : List ℕ → NamedBytes → Bool
 named name file = bytes_eq file.name name
@@ -106,24 +107,8 @@ held_other name bytes (file ∷ files) other ne = elim (cases_Bool (bytes_eq fil
   | inr is ↦ rw is (ap (λ (o : Option (List ℕ)). if bytes_eq file.name other then Some file.bytes else o) (held_other name bytes files other ne))
 ]
 
-pub changes_file : (name bytes : List ℕ) (files : List NamedBytes) → ChangesOnly (held_in files) name (λ file. file ≡ Some bytes) (Some (held_in (with_file name bytes files)))
-changes_file name bytes files = record {
-  now = held_in (with_file name bytes files);
-  told = refl;
-  named = held_with name bytes files;
-  others = held_other name bytes files;
-}
-
-pub changes_held : (name : List ℕ) (files : List NamedBytes) (file : Option (List ℕ)) → (file ≡ None → held_in files name ≡ None) → ChangesOnly (held_in files) name (λ f. f ≡ file) (Some (held_in (with_held name file files)))
-changes_held name files (Some bytes) _ = changes_file name bytes files
-changes_held name files None none = record { now = held_in files; told = refl; named = none refl; others = λ other ne. refl }
-
--- a call that failed and left all as it was
-pub stays : (held : Contents) (name : List ℕ) (step : List ℕ → List ℕ → Type 0) → step (bytes_of (held name)) (bytes_of (held name)) → ChangesOnly held name (Torn step (held name)) (Some held)
-stays held name step same = record { now = held; told = refl; named = record { there = λ is. is; bytes = same }; others = λ other ne. refl }
-
 pub torn_write : (at n : ℕ) (bytes : List ℕ) → TornWrite at n bytes bytes
-torn_write at n bytes = record { before = refl; behind = refl; no_shorter = omega arith; no_longer = omega arith }
+torn_write at n bytes = record { before = refl; rest = refl; no_shorter = omega arith; no_longer = omega arith }
 
 pub torn_cut : (len : ℕ) (bytes : List ℕ) → TornCut len bytes bytes
 torn_cut len bytes = record { before = refl; no_longer = omega arith }

@@ -1,15 +1,75 @@
 -- Reading and writing piece by piece.
-use Rattle.std.proofs.Common.{◌≡◌, inl, inr, ℕ, ◌+◌, ◌-◌, ◌<◌, ◌≤◌, min, List, [], ◌++◌, length, take, drop, Option, Some, Err, sym, ◌∙◌, ap, arith, append_assoc, length-drop}
-use Rattle.std.proofs.Math.Seq.{take-add, take-append-add}
-use Rattle.std.proofs.lemmas.List.{append-nil, drop_all, drop_at, length-take-le, take-append-drop, take-append-le, take_all, take_at, take_rest}
-use Rattle.std.proofs.lemmas.Bool.{cases_lt}
-use Rattle.nr_ports.specs.Ports.{read_count, filled, written}
-use Rattle.nr_ports.specs.Views.{Takes, TookSome}
 use Rattle.nr_ports.specs.declared.fault.WriteFault.{WriteFault}
-use Rattle.nr_ports.specs.declared.fault.WriteFault.TheVariants.{Failed, Memory}
+use Rattle.nr_ports.specs.declared.fault.WriteFault.TheVariants as write
+use Rattle.nr_ports.specs.Views.{write_fault_of}
+use Rattle.nr_spec_plans.specs.Disk.{Takes, Offers, failing, written}
+use Rattle.std.proofs.Common.{inl, inr}
+use Rattle.std.proofs.lemmas.List.{drop_all, drop_at, take-append-drop, take-append-le}
+use Rattle.std.proofs.lemmas.Bool.{cases_lt}
+use Rattle.std.proofs.Common.{◌≡◌, ℕ, ◌+◌, ◌-◌, ◌<◌, ◌≤◌, min, List, [], ◌++◌, length, take, drop, Option, Some, None, Err, refl, sym, ◌∙◌, ap, arith, append_assoc, length-drop}
+use Rattle.std.specs.Prelude.{option_map}
+use Rattle.std.proofs.Math.Seq.{take-add, take-append-add}
+use Rattle.std.proofs.lemmas.List.{append-nil, length-take-le, take_all, take_at, take_rest}
+use Rattle.nr_spec_plans.specs.Disk.{Disk, Told, Tape, more, reading, read, ticking, ticked, taking, filled}
+
+more_more : (m n count : ℕ) → more n (more m count) ≡ more (m + n) count
+more_more m n count = omega arith
+
+more_none : (count : ℕ) → more 0 count ≡ count
+more_none count = omega arith
+
+read_told : (told : Option Told) (m n k : ℕ) → option_map (reading n) (option_map (ticking 1) (option_map (reading m) (option_map (ticking k) told))) ≡ option_map (reading (m + n)) (option_map (ticking (k + 1)) told)
+read_told None m n k = refl
+read_told (Some t) m n k =
+    ap (λ (r : ℕ). Some (record { holds = t.holds; is_pending = t.is_pending; asks = t.asks; reads = r; calls = more 1 (more k t.calls); listed = t.listed })) (more_more m n t.reads)
+    ∙ ap (λ (r : ℕ). Some (record { holds = t.holds; is_pending = t.is_pending; asks = t.asks; reads = more (m + n) t.reads; calls = r; listed = t.listed })) (more_more k 1 t.calls)
+
+read_nothing : (told : Option Told) → option_map (reading 0) (option_map (ticking 0) told) ≡ told
+read_nothing None = refl
+read_nothing (Some t) =
+    ap (λ (r : ℕ). Some (record { holds = t.holds; is_pending = t.is_pending; asks = t.asks; reads = r; calls = more 0 t.calls; listed = t.listed })) (more_none t.reads)
+    ∙ ap (λ (r : ℕ). Some (record { holds = t.holds; is_pending = t.is_pending; asks = t.asks; reads = t.reads; calls = r; listed = t.listed })) (more_none t.calls)
+
+pub read_more : (d : Disk) (m n k : ℕ) → read n (ticked 1 (read m (ticked k d))) ≡ read (m + n) (ticked (k + 1) d)
+read_more d m n k = ap (λ (told : Option Told). record { told = told; read_faults = d.read_faults; write_faults = d.write_faults }) (read_told d.told m n k)
+
+pub read_none : (d : Disk) → read 0 (ticked 0 d) ≡ d
+read_none d = ap (λ (told : Option Told). record { told = told; read_faults = d.read_faults; write_faults = d.write_faults }) (read_nothing d.told)
+
+-- a read that gave nothing is a call
+pub read_idle : (d : Disk) (m n k : ℕ) → n ≡ 0 → read n (ticked 1 (read m (ticked k d))) ≡ read m (ticked (k + 1) d)
+read_idle d m n k none = read_more d m n k ∙ ap (λ (r : ℕ). read r (ticked (k + 1) d)) (let e : m + n ≡ m = omega arith in e)
+
+-- a read that failed is a call
+idle_told : (told : Option Told) (m k : ℕ) → option_map (ticking 1) (option_map (reading m) (option_map (ticking k) told)) ≡ option_map (reading m) (option_map (ticking (k + 1)) told)
+idle_told None m k = refl
+idle_told (Some t) m k = ap (λ (r : ℕ). Some (record { holds = t.holds; is_pending = t.is_pending; asks = t.asks; reads = more m t.reads; calls = r; listed = t.listed })) (more_more k 1 t.calls)
+
+pub read_failed : (d : Disk) (m k : ℕ) → ticked 1 (read m (ticked k d)) ≡ read m (ticked (k + 1) d)
+read_failed d m k = ap (λ (told : Option Told). record { told = told; read_faults = d.read_faults; write_faults = d.write_faults }) (idle_told d.told m k)
+
+took_told : (taken : Option (List ℕ)) (a b : List ℕ) → option_map (λ before. before ++ b) (option_map (λ before. before ++ a) taken) ≡ option_map (λ before. before ++ (a ++ b)) taken
+took_told None a b = refl
+took_told (Some before) a b = ap (λ (l : List ℕ). Some l) (append_assoc before a b)
+
+taking_more : (t : Tape) (a b : List ℕ) → taking b (taking a t) ≡ taking (a ++ b) t
+taking_more t a b = ap (λ (taken : Option (List ℕ)). record { taken = taken; faults = t.faults }) (took_told t.taken a b)
+
+took_nothing : (taken : Option (List ℕ)) → option_map (λ before. before ++ []) taken ≡ taken
+took_nothing None = refl
+took_nothing (Some before) = ap (λ (l : List ℕ). Some l) (append-nil before)
+
+pub taking_none : (t : Tape) → taking [] t ≡ t
+taking_none t = ap (λ (taken : Option (List ℕ)). record { taken = taken; faults = t.faults }) (took_nothing t.taken)
+
+-- the piece is what is left of the text
+pub took_on : (text : List ℕ) (at n : ℕ) (old mid : Tape) → mid ≡ taking (take at text) old → taking (take n (take (length text - at) (drop at text))) mid ≡ taking (take (at + n) text) old
+took_on text at n old mid is =
+    ap (λ (l : List ℕ). taking (take n l) mid) (take_rest text at) ∙ ap (taking (take n (drop at text))) is ∙ taking_more old (take at text) (take n (drop at text))
+    ∙ ap (λ (l : List ℕ). taking l old) (sym (take-add at n text))
 
 -- what has been read so far is one piece more of the file; post is what stands behind the piece
-pub read_on : (file buffer old into post : List ℕ) (at n : ℕ) → at ≤ length buffer → take at buffer ≡ take at file → n ≡ read_count file at (length old) → into ≡ filled file at n old → take (at + n) (take at buffer ++ (into ++ post)) ≡ take (at + n) file
+pub read_on : (file buffer old into post : List ℕ) (at n : ℕ) → at ≤ length buffer → take at buffer ≡ take at file → n ≡ min (length old) (length file - at) → into ≡ filled file at n old → take (at + n) (take at buffer ++ (into ++ post)) ≡ take (at + n) file
 read_on file buffer old into post at n within so_far count bytes =
     let long : length (take at buffer) ≡ at = length-take-le at buffer within in
     let piece = take n (drop at file) in
@@ -20,22 +80,18 @@ read_on file buffer old into post at n within so_far count bytes =
     ap (λ (k : ℕ). take (k + n) (take at buffer ++ (into ++ post))) (sym long) ∙ split ∙ ap (λ (l : List ℕ). l ++ take n (into ++ post)) so_far ∙ ap (λ (l : List ℕ). take at file ++ l) come ∙ sym (take-add at n file)
 
 -- a read that gives nothing says that the file ends
-pub read_out : (file : List ℕ) (at room : ℕ) → at < room → 0 ≡ read_count file at (room - at) → take room file ≡ take at file
+pub read_out : (file : List ℕ) (at room : ℕ) → at < room → 0 ≡ min (room - at) (length file - at) → take room file ≡ take at file
 read_out file at room less none =
     let ends : length file ≤ at = omega arith in
     take_all room file (omega arith) ∙ sym (take_all at file (omega arith))
 
--- what has been taken so far is one piece more of the text
-taken_on : (before text : List ℕ) (at n : ℕ) → (before ++ take at text) ++ take n (drop at text) ≡ before ++ take (at + n) text
-taken_on before text at n = append_assoc before (take at text) (take n (drop at text)) ∙ ap (λ (l : List ℕ). before ++ l) (sym (take-add at n text))
-
--- the piece is what is left of the text
-pub took_on : (before text : List ℕ) (at n : ℕ) (now : Option (List ℕ)) → now ≡ Some ((before ++ take at text) ++ take n (take (length text - at) (drop at text))) → now ≡ Some (before ++ take (at + n) text)
-took_on before text at n now is = is ∙ ap (λ (l : List ℕ). Some ((before ++ take at text) ++ take n l)) (take_rest text at) ∙ ap Some (taken_on before text at n)
-
-pub took_some : (before text : List ℕ) (at : ℕ) (fault : WriteFault) (now : Option (List ℕ)) → Takes (before ++ take at text) (take (length text - at) (drop at text)) (Err fault) now → TookSome before text now
-took_some before text at Failed now some = (at + some.0, took_on before text at some.0 now some.1)
-took_some before text at Memory now none = (at, none)
+-- the same at a read that gave nothing
+pub read_end : (file buffer old into post : List ℕ) (at n room : ℕ) → at < room → length old ≡ room - at → n ≡ 0 → at ≤ length buffer → take at buffer ≡ take at file
+    → n ≡ min (length old) (length file - at) → into ≡ filled file at n old → take at (take at buffer ++ (into ++ post)) ≡ take room file
+read_end file buffer old into post at n room less long none within so_far count bytes =
+    let same : at + n ≡ at = omega arith in
+    let end : 0 ≡ min (room - at) (length file - at) = omega arith in
+    ap (λ (k : ℕ). take k (take at buffer ++ (into ++ post))) (sym same) ∙ read_on file buffer old into post at n within so_far count bytes ∙ ap (λ (k : ℕ). take k file) same ∙ sym (read_out file at room less end)
 
 -- A write in two parts: over bytes stand over old ones, and the rest is put behind them.
 over : (bytes from : List ℕ) (at n : ℕ) → List ℕ
@@ -76,3 +132,10 @@ written_first at from is =
     let front : take at [] ≡ [] = take_all at [] (omega arith) in
     let behind : drop (at + length from) [] ≡ [] = drop_all (at + length from) [] (omega arith) in
     ap (λ (l : List ℕ). l ++ from ++ drop (at + length from) []) front ∙ ap (λ (l : List ℕ). from ++ l) behind ∙ append-nil from
+
+-- ---- offering
+
+pub offers_front : (text : List ℕ) (at : ℕ) (fault : WriteFault) (old mid new : Tape) → at < length text → mid ≡ taking (take at text) old
+    → Takes (take (length text - at) (drop at text)) mid new (Err (write_fault_of fault)) → Offers text old new (Err (write_fault_of fault))
+offers_front text at write.Failed old mid new less so_far (n, is) = (at + n, is ∙ ap failing (took_on text at n old mid so_far))
+offers_front text at write.Memory old mid new less so_far is = (at, less, is ∙ so_far)

@@ -1,49 +1,74 @@
--- What files in memory tell of a call that writes, from what the call did to them.
-use Rattle.std.proofs.Common.{◌≡◌, ℕ, List, Option, Some, Result, Ok, Err, OnOk, OnErr, IsErrOf, sym, ◌∙◌, ap, subst, arith}
-use Rattle.std.proofs.lemmas.Option.{same_Some}
-use Rattle.nr_ports.specs.Ports.{Contents, NamedBytes, bytes_of, written, cut_to, held_in, with_file, with_held, Torn, TornWrite, TornCut, ChangesOnly}
-use Rattle.nr_ports.specs.Views.{CountsWriteFaults, faults_with}
-use Rattle.nr_ports.specs.declared.fault.WriteFault.{WriteFault}
-use Rattle.nr_ports.specs.declared.fault.WriteFault.TheVariants.{Failed, Memory}
-use Rattle.nr_ports.proofs.Names.{changes_file, changes_held, stays, torn_write, torn_cut, cut_none}
+-- What the files in memory tell behind a call that writes.
+use Rattle.std.proofs.Common.{◌≡◌, ◌≢◌, ℕ, false, List, Option, Some, None, Ok, true, refl, sym, ap, subst, ◌∙◌}
+use Rattle.nr_spec_plans.specs.Disk.{Told, bytes_of, written, cut_to, ChangesOnly, Writes, Cuts, FailsListed, is_listed}
+use Rattle.nr_ports.specs.Ports.{MemoryFiles, NamedBytes, Numbering, counted, disk_of, told_of, fails_next, held_in, with_file, with_held}
+use Rattle.nr_ports.proofs.Names.{held_with, held_other, cut_none}
 
-abbrev pub Answer : Type 0
-Answer = Result (Unit {0}) WriteFault
+-- a call that isn't listed may go well
+unlisted : (m : MemoryFiles) → fails_next m.calls ≡ false → FailsListed {A = Unit {0}} (disk_of m) (Ok tt)
+unlisted m none t told is = absurd (let e : told_of m ≡ t = cc in let f : is_listed (told_of m) ≡ true = subst (λ (t : Told). is_listed t ≡ true) (sym e) is in cc)
 
--- what holds after an error holds after this one
-pub after : (r : Answer) (e : WriteFault) (P : Type 0) → OnErr r P → IsErrOf r e → P
-after (Ok x) e P err is = absurd (cc)
-after (Err f) e P err is = err
+-- other files and calls, and nothing else changed
+abbrev pub later : List NamedBytes → Numbering → MemoryFiles → MemoryFiles
+later files calls m = record { files = files; calls = calls; read_faults = m.read_faults; write_faults = m.write_faults; asks = m.asks; reads = m.reads }
 
-wrote : (old new : List NamedBytes) (name bytes : List ℕ) (r : Answer) → OnOk r (new ≡ with_file name bytes old) → OnOk r (ChangesOnly (held_in old) name (λ file. file ≡ Some bytes) (Some (held_in new)))
-wrote old new name bytes (Ok x) is = subst (λ (n : List NamedBytes). ChangesOnly (held_in old) name (λ file. file ≡ Some bytes) (Some (held_in n))) (sym is) (changes_file name bytes old)
-wrote old new name bytes (Err e) is = tt
+pub wrote : (m : MemoryFiles) (files : List NamedBytes) (calls : Numbering) (name : List ℕ) (at : ℕ) (from : List ℕ) → calls ≡ counted m.calls → fails_next m.calls ≡ false → files ≡ with_file name (written at from (bytes_of (held_in m.files name))) m.files
+    → Writes name at from (disk_of m) (disk_of (later files calls m)) (Ok tt)
+wrote m files calls name at from later_on none is = record {
+  untold = λ none. absurd cc;
+  told = λ t told.
+      subst (λ (t : Told). (u : Told) × (Some (told_of (later files calls m)) ≡ Some u) × ChangesOnly name (λ file. file ≡ Some (written at from (bytes_of (t.holds name)))) t u)
+      (let e : told_of m ≡ t = cc in e) (
+        told_of (later files calls m),
+        refl,
+        record {
+          named = ap (λ (l : List NamedBytes). held_in l name) is ∙ held_with name (written at from (bytes_of (held_in m.files name))) m.files;
+          others = λ other ne. ap (λ (l : List NamedBytes). held_in l other) is ∙ held_other name (written at from (bytes_of (held_in m.files name))) m.files other ne;
+          pending = λ other ne. refl;
+          asks = refl;
+          reads = refl;
+          calls = ap (λ (c : Numbering). c.made) later_on;
+          listed = ap (λ (c : Numbering). c.failing) later_on;
+        },
+      );
+  after = refl;
+  cause = λ is. cc;
+  listed = unlisted m none;
+}
 
-pub tells_written : (old new : List NamedBytes) (name from : List ℕ) (at : ℕ) (r : Answer) → OnOk r (new ≡ with_file name (written at from (bytes_of (held_in old name))) old) → (held : Contents) → Some (held_in old) ≡ Some held → OnOk r (ChangesOnly held name (λ file. file ≡ Some (written at from (bytes_of (held name)))) (Some (held_in new)))
-tells_written old new name from at r is held told =
-    subst (λ (h : Contents). OnOk r (ChangesOnly h name (λ file. file ≡ Some (written at from (bytes_of (h name)))) (Some (held_in new)))) (same_Some (held_in old) held told) (wrote old new name (written at from (bytes_of (held_in old name))) r is)
+with_named : (name : List ℕ) (file : Option (List ℕ)) (files : List NamedBytes) → (file ≡ None → held_in files name ≡ None) → held_in (with_held name file files) name ≡ file
+with_named name (Some bytes) files none = held_with name bytes files
+with_named name None files none = none refl
 
-cut : (old new : List NamedBytes) (name : List ℕ) (len : ℕ) (r : Answer) → OnOk r (new ≡ with_held name (cut_to len (held_in old name)) old) → OnOk r (ChangesOnly (held_in old) name (λ file. file ≡ cut_to len (held_in old name)) (Some (held_in new)))
-cut old new name len (Ok x) is = subst (λ (n : List NamedBytes). ChangesOnly (held_in old) name (λ file. file ≡ cut_to len (held_in old name)) (Some (held_in n))) (sym is) (changes_held name old (cut_to len (held_in old name)) (cut_none len (held_in old name)))
-cut old new name len (Err e) is = tt
+with_other : (name : List ℕ) (file : Option (List ℕ)) (files : List NamedBytes) (other : List ℕ) → other ≢ name → held_in (with_held name file files) other ≡ held_in files other
+with_other name (Some bytes) files other ne = held_other name bytes files other ne
+with_other name None files other ne = refl
 
-pub tells_cut : (old new : List NamedBytes) (name : List ℕ) (len : ℕ) (r : Answer) → OnOk r (new ≡ with_held name (cut_to len (held_in old name)) old) → (held : Contents) → Some (held_in old) ≡ Some held → OnOk r (ChangesOnly held name (λ file. file ≡ cut_to len (held name)) (Some (held_in new)))
-tells_cut old new name len r is held told =
-    subst (λ (h : Contents). OnOk r (ChangesOnly h name (λ file. file ≡ cut_to len (h name)) (Some (held_in new)))) (same_Some (held_in old) held told) (cut old new name len r is)
+pub was_cut : (m : MemoryFiles) (files : List NamedBytes) (calls : Numbering) (name : List ℕ) (len : ℕ) → calls ≡ counted m.calls → fails_next m.calls ≡ false → files ≡ with_held name (cut_to len (held_in m.files name)) m.files
+    → Cuts name len (disk_of m) (disk_of (later files calls m)) (Ok tt)
+was_cut m files calls name len later_on none is = record {
+  untold = λ none. absurd cc;
+  told = λ t told.
+      subst (λ (t : Told). (u : Told) × (Some (told_of (later files calls m)) ≡ Some u) × ChangesOnly name (λ file. file ≡ cut_to len (t.holds name)) t u)
+      (let e : told_of m ≡ t = cc in e) (
+        told_of (later files calls m),
+        refl,
+        record {
+          named = ap (λ (l : List NamedBytes). held_in l name) is ∙ with_named name (cut_to len (held_in m.files name)) m.files (cut_none len (held_in m.files name));
+          others = λ other ne. ap (λ (l : List NamedBytes). held_in l other) is ∙ with_other name (cut_to len (held_in m.files name)) m.files other ne;
+          pending = λ other ne. refl;
+          asks = refl;
+          reads = refl;
+          calls = ap (λ (c : Numbering). c.made) later_on;
+          listed = ap (λ (c : Numbering). c.failing) later_on;
+        },
+      );
+  after = refl;
+  cause = λ is. cc;
+  listed = unlisted m none;
+}
 
--- files that stay hold what they held
-held_still : (old new : List NamedBytes) → new ≡ old → (held : Contents) → Some (held_in old) ≡ Some held → Some held ≡ Some (held_in new)
-held_still old new same held told = sym told ∙ ap (λ (l : List NamedBytes). Some (held_in l)) (sym same)
-
-pub tells_torn_write : (old new : List NamedBytes) (name : List ℕ) (at n : ℕ) → new ≡ old → (held : Contents) → Some (held_in old) ≡ Some held → ChangesOnly held name (Torn (TornWrite at n) (held name)) (Some (held_in new))
-tells_torn_write old new name at n same held told =
-    subst (λ (h : Option Contents). ChangesOnly held name (Torn (TornWrite at n) (held name)) h) (held_still old new same held told) (stays held name (TornWrite at n) (torn_write at n (bytes_of (held name))))
-
-pub tells_torn_cut : (old new : List NamedBytes) (name : List ℕ) (len : ℕ) → new ≡ old → (held : Contents) → Some (held_in old) ≡ Some held → ChangesOnly held name (Torn (TornCut len) (held name)) (Some (held_in new))
-tells_torn_cut old new name len same held told =
-    subst (λ (h : Option Contents). ChangesOnly held name (Torn (TornCut len) (held name)) h) (held_still old new same held told) (stays held name (TornCut len) (torn_cut len (bytes_of (held name))))
-
-pub counts : (r : Answer) (before now : ℕ) → now ≡ faults_with r before → CountsWriteFaults before now r
-counts (Ok x) before now is = is
-counts (Err Failed) before now is = omega arith
-counts (Err Memory) before now is = is
+-- the same by what stood there before
+pub wrote_by : (m : MemoryFiles) (before files : List NamedBytes) (calls : Numbering) (name : List ℕ) (at : ℕ) (from : List ℕ) → before ≡ m.files → calls ≡ counted m.calls → fails_next m.calls ≡ false → files ≡ with_file name (written at from (bytes_of (held_in before name))) before
+    → Writes name at from (disk_of m) (disk_of (later files calls m)) (Ok tt)
+wrote_by m before files calls name at from same later_on none is = wrote m files calls name at from later_on none (is ∙ ap (λ (l : List NamedBytes). with_file name (written at from (bytes_of (held_in l name))) l) same)

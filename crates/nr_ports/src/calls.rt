@@ -3,6 +3,7 @@
 ghost use Rattle.std.specs.Prelude.{◌≡◌, [], OnOk, OnErr};
 ghost use Rattle.nr_ports.specs.Ports.{Numbering, fails_next, counted, listed};
 
+use crate::count::raise;
 use nr_bytes::Memory;
 use std::alloc::Global;
 use std::marker::Model;
@@ -53,7 +54,7 @@ impl Calls {
         ensures fails { result ≡ fails_next self.old }
         ensures counts { self.new ≡ counted self.old }
     {
-        self.made = self.made.saturating_add(1);
+        self.made = raise(1, self.made);
         self.failing.contains(&self.made)
     }
 }

@@ -3,6 +3,7 @@
 #![tactic(auto)]
 
 mod calls;
+mod count;
 mod fault;
 mod files;
 mod mem_files;
@@ -11,6 +12,7 @@ mod sink;
 mod stored;
 mod whole;
 
+pub use count::raise;
 pub use fault::{Failed, ReadFault, WriteFault};
 pub use files::Files;
 pub use mem_files::MemFiles;

@@ -1,10 +1,12 @@
 //! Files in memory.
 
 ghost use Rattle.std.specs.Prelude.{◌≡◌, ◌≤◌, ◌↔◌, false, [], Some, option_map, length, is_err, IsTrue, IsErr, IfOk, OnOk, OnErr, IsErrOf};
-ghost use Rattle.nr_ports.specs.Ports.{MemoryFiles, bytes_of, read_count, filled, written, cut_to, raised, held_in, with_file, with_held, holding, calling, listed, counted, fails_next, after_reading};
-ghost use Rattle.nr_ports.specs.Views.{faults_with};
+ghost use Rattle.nr_spec_plans.specs.Disk.{Asks, GivesAt, Writes, Cuts, Syncs, bytes_of, written, cut_to};
+ghost use Rattle.nr_ports.specs.Ports.{MemoryFiles, raised, held_in, with_file, with_held, holding, calling, listed, counted, fails_next, after_reading, disk_of};
+ghost use Rattle.nr_ports.specs.Views.{by_reading, by_writing};
 
 use crate::calls::Calls;
+use crate::count::raise;
 use crate::fault::{Failed, WriteFault};
 use crate::files::Files;
 use crate::stored::{File, copy_from, cut_in, find, make_room, place, write_in};
@@ -21,6 +23,8 @@ pub struct MemFiles {
     calls: Calls,
     read_faults: u64,
     write_faults: u64,
+    asks: u64,
+    reads: u64,
 }
 
 impl Model for MemFiles {
@@ -28,13 +32,13 @@ impl Model for MemFiles {
 
     ghost Value = { MemoryFiles };
 
-    ghost view = { λ m. record { files = m.files.items; calls = m.calls; read_faults = m.read_faults; write_faults = m.write_faults } };
+    ghost view = { λ m. record { files = m.files.items; calls = m.calls; read_faults = m.read_faults; write_faults = m.write_faults; asks = m.asks; reads = m.reads } };
 }
 
 impl MemFiles {
     /// No file, no call and no fault.
     pub fn new(alloc: Global) -> MemFiles
-        ensures { result ≡ record { files = []; calls = record { failing = []; made = 0 }; read_faults = 0; write_faults = 0 } }
+        ensures { result ≡ record { files = []; calls = record { failing = []; made = 0 }; read_faults = 0; write_faults = 0; asks = 0; reads = 0 } }
     {
         MemFiles {
             alloc,
@@ -42,6 +46,8 @@ impl MemFiles {
             calls: Calls::new(alloc),
             read_faults: 0,
             write_faults: 0,
+            asks: 0,
+            reads: 0,
         }
     }
 
@@ -93,9 +99,9 @@ impl MemFiles {
     // Counts a call that writes as one that failed.
     fn fail_writing(&mut self) -> WriteFault
         ensures fault { result ≡ WriteFault.Failed }
-        ensures after { self.new ≡ record { files = self.old.files; calls = self.old.calls; read_faults = self.old.read_faults; write_faults = raised self.old.write_faults } }
+        ensures after { self.new ≡ record { files = self.old.files; calls = self.old.calls; read_faults = self.old.read_faults; write_faults = raised self.old.write_faults; asks = self.old.asks; reads = self.old.reads } }
     {
-        self.write_faults = self.write_faults.saturating_add(1);
+        self.write_faults = raise(1, self.write_faults);
         WriteFault::Failed
     }
 
@@ -105,7 +111,7 @@ impl MemFiles {
         ensures after { self.new ≡ after_reading self.old }
     {
         if self.calls.begin() {
-            self.read_faults = self.read_faults.saturating_add(1);
+            self.read_faults = raise(1, self.read_faults);
             return Err(Failed);
         }
         Ok(())
@@ -113,41 +119,35 @@ impl MemFiles {
 }
 
 impl Files for MemFiles {
-    ghost holds = { λ m. Some (held_in m.files) };
+    ghost use Rattle.nr_ports.specs.Ports.{disk_of};
 
-    ghost read_faults = { λ m. m.read_faults };
-
-    ghost write_faults = { λ m. m.write_faults };
-
-    // These files have no crash, which could leave something else.
-    ghost is_pending = { λ _ _. false };
-
-    // Which files were asked for isn't kept.
-    ghost asks = { λ _ _. 0 };
-
-    ghost reads = { λ _ _. 0 };
+    ghost disk = { λ m. disk_of m };
 
     // It fails exactly where its number is listed.
     fn size(&mut self, name: &str) -> Result<Option<u64>, Failed>
-        ensures size { IfOk result (λ size. size ≡ option_map length (held_in self.old.files name.now)) }
         ensures fails { is_err result ≡ fails_next self.old.calls }
-        ensures after { self.new ≡ after_reading self.old }
+        ensures counts { self.new.calls ≡ counted self.old.calls }
+        ensures same { self.new.files ≡ self.old.files }
+        ensures asks { Asks name.now (disk_of self.old) (disk_of self.new) (by_reading result) }
     {
+        self.asks = raise(1, self.asks);
         self.begin_reading()?;
         Ok(self.bytes(name).map(|bytes| bytes.len() as u64))
     }
 
     // It fails exactly where its number is listed, and then leaves the buffer as it was.
     fn read_at(&mut self, name: &str, at: u64, into: &mut [u8]) -> Result<usize, Failed>
-        ensures count { IfOk result (λ n. n ≡ read_count (bytes_of (held_in self.old.files name.now)) at (length into.old)) }
-        ensures bytes { IfOk result (λ n. into.new ≡ filled (bytes_of (held_in self.old.files name.now)) at n into.old) }
-        ensures buffer { OnErr result (into.new ≡ into.old) }
         ensures fails { is_err result ≡ fails_next self.old.calls }
-        ensures after { self.new ≡ after_reading self.old }
+        ensures counts { self.new.calls ≡ counted self.old.calls }
+        ensures same { self.new.files ≡ self.old.files }
+        ensures buffer { OnErr result (into.new ≡ into.old) }
+        ensures gives { GivesAt name.now at into.old into.new (disk_of self.old) (disk_of self.new) (by_reading result) }
     {
         self.begin_reading()?;
         let bytes = self.bytes(name).unwrap_or(&[]);
-        Ok(copy_from(bytes, at, into))
+        let n = copy_from(bytes, at, into);
+        self.reads = raise(n as u64, self.reads);
+        Ok(n)
     }
 
     // It fails only where its number is listed, and then leaves what it holds as it was. Room is made
@@ -159,8 +159,7 @@ impl Files for MemFiles {
         ensures failed { IsErrOf result WriteFault.Failed → IsTrue (fails_next self.old.calls) }
         ensures listed { IsTrue (fails_next self.old.calls) → IsErr result }
         ensures counts { self.new.calls ≡ counted self.old.calls }
-        ensures writes { self.new.write_faults ≡ faults_with result self.old.write_faults }
-        ensures reads { self.new.read_faults ≡ self.old.read_faults }
+        ensures writes { Writes name.now at from.now (disk_of self.old) (disk_of self.new) (by_writing result) }
     {
         let fails = self.calls.begin();
         make_room(self.alloc, &mut self.files, name, at as usize, from)?;
@@ -175,10 +174,9 @@ impl Files for MemFiles {
     fn cut(&mut self, name: &str, len: u64) -> Result<(), WriteFault>
         ensures cut { OnOk result (self.new.files ≡ with_held name.now (cut_to len (held_in self.old.files name.now)) self.old.files) }
         ensures nothing { OnErr result (self.new.files ≡ self.old.files) }
-        ensures failed { IsErrOf result WriteFault.Failed ↔ IsTrue (fails_next self.old.calls) }
         ensures counts { self.new.calls ≡ counted self.old.calls }
-        ensures writes { self.new.write_faults ≡ faults_with result self.old.write_faults }
-        ensures reads { self.new.read_faults ≡ self.old.read_faults }
+        ensures failed { IsErrOf result WriteFault.Failed ↔ IsTrue (fails_next self.old.calls) }
+        ensures cuts { Cuts name.now len (disk_of self.old) (disk_of self.new) (by_writing result) }
     {
         if self.calls.begin() {
             return Err(self.fail_writing());
@@ -188,14 +186,14 @@ impl Files for MemFiles {
     }
 
     // It fails exactly where its number is listed, and wants no memory.
-    fn sync(&mut self, _name: &str) -> Result<(), WriteFault>
+    fn sync(&mut self, name: &str) -> Result<(), WriteFault>
         ensures same { self.new.files ≡ self.old.files }
-        ensures failed { IsErrOf result WriteFault.Failed ↔ IsTrue (fails_next self.old.calls) }
         ensures memory { IsErrOf result WriteFault.Memory → ⊥ }
         ensures counts { self.new.calls ≡ counted self.old.calls }
-        ensures writes { self.new.write_faults ≡ faults_with result self.old.write_faults }
-        ensures reads { self.new.read_faults ≡ self.old.read_faults }
+        ensures failed { IsErrOf result WriteFault.Failed ↔ IsTrue (fails_next self.old.calls) }
+        ensures syncs { Syncs name.now (disk_of self.old) (disk_of self.new) (by_writing result) }
     {
+        let _name = name;
         if self.calls.begin() {
             return Err(self.fail_writing());
         }

@@ -4,6 +4,7 @@ ghost use Rattle.std.specs.Prelude.{◌≡◌, ◌↔◌, ◌++◌, [], Some, le
 ghost use Rattle.nr_ports.specs.Ports.{MemorySink, listed, counted, faults_after, fails_next};
 
 use crate::calls::Calls;
+use crate::count::raise;
 use crate::fault::WriteFault;
 use crate::sink::Sink;
 use nr_bytes::Memory;
@@ -63,9 +64,9 @@ impl MemSink {
 }
 
 impl Sink for MemSink {
-    ghost taken = { λ s. Some s.bytes };
+    ghost use Rattle.nr_ports.specs.Ports.{tape_of};
 
-    ghost faults = { λ s. s.faults };
+    ghost tape = { λ s. tape_of s };
 
     // It takes the whole piece, and fails exactly where its number is listed.
     fn write(&mut self, piece: &[u8]) -> Result<usize, WriteFault>
@@ -77,7 +78,7 @@ impl Sink for MemSink {
         ensures faults { self.new.faults ≡ faults_after self.old.calls self.old.faults }
     {
         if self.calls.begin() {
-            self.faults = self.faults.saturating_add(1);
+            self.faults = raise(1, self.faults);
             return Err(WriteFault::Failed);
         }
         self.bytes.extend_from_slice(piece)?;

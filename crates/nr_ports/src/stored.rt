@@ -1,9 +1,10 @@
 //! Files as they are stored in memory, one behind another.
 
-ghost use Rattle.std.specs.Prelude.{◌≡◌, ◌≤◌, ◌+◌, Some, option_map, length, take, OnOk, OnErr};
+ghost use Rattle.std.specs.Prelude.{◌≡◌, ◌≤◌, ◌+◌, ◌-◌, min, Some, option_map, length, take, OnOk, OnErr};
 ghost use Rattle.std.specs.List.{position};
 ghost use Rattle.std.specs.Str.{bytes_eq};
-ghost use Rattle.nr_ports.specs.Ports.{NamedBytes, bytes_of, read_count, filled, written, cut_to, held_in, with_file, with_held};
+ghost use Rattle.nr_spec_plans.specs.Disk.{bytes_of, filled, written, cut_to};
+ghost use Rattle.nr_ports.specs.Ports.{NamedBytes, held_in, with_file, with_held};
 
 use nr_bytes::Memory;
 use std::alloc::Global;
@@ -91,7 +92,7 @@ fn place_of(files: &[File], name: &str) -> Option<usize>
 
 // The bytes that fit from a place on.
 pub fn copy_from(bytes: &[u8], at: u64, into: &mut [u8]) -> usize
-    ensures count { result ≡ read_count bytes.now at (length into.old) }
+    ensures count { result ≡ min (length into.old) (length bytes.now - at) }
     ensures bytes { into.new ≡ filled bytes.now at result into.old }
 {
     if at >= bytes.len() as u64 {

@@ -1,8 +1,9 @@
 //! Reading a file and writing a text in whole.
 
-ghost use Rattle.std.specs.Prelude.{◌≡◌, ◌≢◌, ◌++◌, ℕ, List, length, take, Some, IfOk, OnOk, OnErr};
-ghost use Rattle.nr_ports.specs.Ports.{Contents, bytes_of, CountsFaults};
-ghost use Rattle.nr_ports.specs.Views.{CountsReadFaults, CountsWriteFaults, TookSome};
+ghost use Rattle.std.specs.Prelude.{length};
+ghost use Rattle.nr_spec_plans.specs.Disk.{Offers};
+ghost use Rattle.nr_spec_plans.specs.Plans.{Reads, Fills};
+ghost use Rattle.nr_ports.specs.Views.{by_reading, by_whole, by_writing};
 
 use crate::fault::{Failed, ReadFault, WriteFault};
 use crate::files::Files;
@@ -16,16 +17,7 @@ pub fn read_whole<F: Files>(
     name: &str,
     size: u64,
 ) -> Result<Vec<u8>, ReadFault>
-    ensures front { (held : Contents) → F.holds files.old ≡ Some held
-        → IfOk result (λ v. v.items ≡ take size (bytes_of (held name.now))) }
-    ensures whole { (held : Contents) → F.holds files.old ≡ Some held → size ≡ length (bytes_of (held name.now))
-        → IfOk result (λ v. v.items ≡ bytes_of (held name.now)) }
-    ensures same { F.holds files.new ≡ F.holds files.old }
-    ensures cause { CountsReadFaults (F.read_faults files.old) (F.read_faults files.new) result }
-    ensures writes { F.write_faults files.new ≡ F.write_faults files.old }
-    ensures pending { F.is_pending files.new ≡ F.is_pending files.old }
-    ensures unasked { (other : List ℕ) → other ≢ name.now → F.asks files.new other ≡ F.asks files.old other }
-    ensures unread { (other : List ℕ) → other ≢ name.now → F.reads files.new other ≡ F.reads files.old other }
+    ensures { Reads name.now size (F.disk files.old) (F.disk files.new) (by_whole result) }
 {
     let mut bytes = vec![in alloc; 0u8; size as usize]?;
     let n = fill(files, name, &mut bytes)?;
@@ -34,16 +26,9 @@ pub fn read_whole<F: Files>(
 }
 
 // Reads a file from its start into a buffer, until that is full or the file ends, and says how many
-// bytes came. Each round but the last reads a byte or more.
+// bytes came.
 fn fill<F: Files>(files: &mut F, name: &str, into: &mut [u8]) -> Result<usize, Failed>
-    ensures front { (held : Contents) → F.holds files.old ≡ Some held
-        → IfOk result (λ n. take n into.new ≡ take (length into.old) (bytes_of (held name.now))) }
-    ensures same { F.holds files.new ≡ F.holds files.old }
-    ensures cause { CountsFaults (F.read_faults files.old) (F.read_faults files.new) result }
-    ensures writes { F.write_faults files.new ≡ F.write_faults files.old }
-    ensures pending { F.is_pending files.new ≡ F.is_pending files.old }
-    ensures unasked { (other : List ℕ) → other ≢ name.now → F.asks files.new other ≡ F.asks files.old other }
-    ensures unread { (other : List ℕ) → other ≢ name.now → F.reads files.new other ≡ F.reads files.old other }
+    ensures { Fills name.now (length into.old) into.new (F.disk files.old) (F.disk files.new) (by_reading result) }
 {
     let mut at = 0;
     while at < into.len() {
@@ -58,11 +43,7 @@ fn fill<F: Files>(files: &mut F, name: &str, into: &mut [u8]) -> Result<usize, F
 
 /// Offers a text to a sink until all of it is taken. Nothing more is offered after a fault.
 pub fn write_all<S: Sink>(sink: &mut S, text: &[u8]) -> Result<(), WriteFault>
-    ensures all { (before : List ℕ) → S.taken sink.old ≡ Some before
-        → OnOk result (S.taken sink.new ≡ Some (before ++ text.now)) }
-    ensures some { (before : List ℕ) → S.taken sink.old ≡ Some before
-        → OnErr result (TookSome before text.now (S.taken sink.new)) }
-    ensures cause { CountsWriteFaults (S.faults sink.old) (S.faults sink.new) result }
+    ensures { Offers text.now (S.tape sink.old) (S.tape sink.new) (by_writing result) }
 {
     let mut at = 0;
     while at < text.len() {

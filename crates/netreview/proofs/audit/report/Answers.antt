@@ -9,13 +9,13 @@ use Rattle.netreview.proofs.audit.report.Goals as goal
 abbrev with_text : List ℕ → Ending
 with_text text = record { status = 0; text = text }
 
-pub returns-then-is_empty-clause-value : goal.returns-then-is_empty-clause-value
-returns-then-is_empty-clause-value c = λ conflicts e.
+pub returns-then-is_empty : goal.returns-then-is_empty
+returns-then-is_empty c = λ conflicts e.
     let none = sym (ap length c.as_str.ensures.value) ∙ eqb-true _ _ (sym c.is_empty.ensures ∙ c.if-is_empty.true) in
     ap with_text (ap (λ v. v.items) c.into_bytes.ensures.value ∙ c.in_ok-from_str.ensures.ok) ∙ clean_report conflicts (sym (nil_from_length (string_bytes c.args.lines) none) ∙ e)
 
-pub returns-clause-value : goal.returns-clause-value
-returns-clause-value c = λ conflicts e.
+pub returns : goal.returns
+returns c = λ conflicts e.
     ap full_ending (ap (λ v. v.items) c.into_bytes-2.ensures.value)
     ∙ full_report (string_bytes c.args.lines) conflicts
     (λ nil. eqb-false _ _ (sym c.is_empty.ensures ∙ c.if-is_empty.false) (ap length (c.as_str.ensures.value ∙ nil))) e

@@ -1,5 +1,6 @@
 use Rattle.std.proofs.Common.{set, take, rules, ◌∙◌, ap, sym}
-use Rattle.nr_ports.specs.Ports.{with_held, cut_to}
+use Rattle.nr_spec_plans.specs.Disk.{cut_to}
+use Rattle.nr_ports.specs.Ports.{with_held}
 use Rattle.nr_ports.proofs.Names.{found, missing, cut_absent}
 use Rattle.nr_ports.proofs.stored.cut_in.Goals as goal
 

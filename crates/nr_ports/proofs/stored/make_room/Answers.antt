@@ -1,5 +1,5 @@
 use Rattle.std.proofs.Common.{length, rules, arith, ap}
-use Rattle.nr_ports.specs.Ports.{bytes_of}
+use Rattle.nr_spec_plans.specs.Disk.{bytes_of}
 use Rattle.nr_ports.proofs.Names.{found}
 use Rattle.nr_ports.proofs.stored.make_room.Goals as goal
 

@@ -1,5 +1,6 @@
 use Rattle.std.proofs.Common.{length, set, rules, arith, ◌≡◌, ◌∙◌, ap, sym}
-use Rattle.nr_ports.specs.Ports.{bytes_of, written, with_file}
+use Rattle.nr_spec_plans.specs.Disk.{bytes_of, written}
+use Rattle.nr_ports.specs.Ports.{with_file}
 use Rattle.nr_ports.proofs.Names.{found, missing}
 use Rattle.nr_ports.proofs.Pieces.{written_first}
 use Rattle.nr_ports.proofs.stored.write_in.Goals as goal

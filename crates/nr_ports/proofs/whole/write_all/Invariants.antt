@@ -1,11 +1,11 @@
-use Rattle.std.proofs.Common.{◌≡◌, ℕ, ◌-◌, ◌≤◌, List, ◌++◌, length, take, Some}
+use Rattle.std.proofs.Common.{◌≡◌, ◌-◌, ◌≤◌, length, take}
+use Rattle.nr_spec_plans.specs.Disk.{taking}
 use Rattle.nr_ports.proofs.whole.write_all.Given as goal
 
 abbrev pub invariant-loop-at : goal.invariant-loop-at
 invariant-loop-at g l = record {
   within : l.at ≤ length l.text;
-  taken : (before : List ℕ) → g.S.Sink.taken l.fn.sink ≡ Some before → g.S.Sink.taken l.sink ≡ Some (before ++ take l.at l.text);
-  faults : g.S.Sink.faults l.sink ≡ g.S.Sink.faults l.fn.sink;
+  taken : g.S.Sink.tape l.sink ≡ taking (take l.at l.text) (g.S.Sink.tape l.fn.sink);
 }
 
 abbrev pub decreases-loop-at : goal.decreases-loop-at
