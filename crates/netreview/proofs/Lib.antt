@@ -4,3 +4,6 @@ pub mod LinkLemmas
 pub mod WordLemmas
 pub mod AuditWordLemmas
 pub mod ReportLemmas
+pub mod PlanKinds
+pub mod StatusLaws
+pub mod FileLaws

@@ -6,3 +6,4 @@ pub mod Running
 pub mod Requests
 pub mod Links
 pub mod Endings
+pub mod Causes

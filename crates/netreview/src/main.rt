@@ -9,6 +9,7 @@ mod ending;
 mod input;
 mod key_request;
 mod keygen;
+mod laws;
 mod links;
 mod numbers;
 mod promise_file;

@@ -8,7 +8,7 @@ use Rattle.std.proofs.lemmas.Slice.Eq.{bytes_eq-Decides}
 use Rattle.std.proofs.lemmas.List.Quantifiers.{position-Some}
 use Rattle.std.proofs.lemmas.Grind.{common_steps}
 use Rattle.nr_spec_plans.specs.Disk.{cut_to, TornWrite, TornCut}
-use Rattle.nr_ports.specs.Ports.{NamedBytes, held_in, with_file}
+use Rattle.nr_ports.specs.Ports.{NamedBytes, held_in, pending_in, settled, with_file}
 
 abbrev pub named : List ℕ → NamedBytes → Bool
 named name file = bytes_eq file.name name
@@ -30,22 +30,30 @@ held_at name [] i d first = absurd (omega (arith, first.there))
 held_at name (file ∷ files) zero d first = let h : bytes_eq file.name name ≡ true = first.has in rw h refl
 held_at name (file ∷ files) (suc i) d first = let h : bytes_eq file.name name ≡ false = first.before zero (omega arith) in rw h (held_at name files i d (later name file files i d first))
 
-placed_at : (name bytes : List ℕ) (files : List NamedBytes) (i : ℕ) (d : NamedBytes) → IsFirst name files i d → set files i (record { name = (get_or files i d).name; bytes = bytes }) ≡ with_file name bytes files
+placed_at : (name bytes : List ℕ) (files : List NamedBytes) (i : ℕ) (d : NamedBytes) → IsFirst name files i d → set files i (record { name = (get_or files i d).name; bytes = bytes; is_pending = true }) ≡ with_file name bytes files
 placed_at name bytes [] i d first = absurd (omega (arith, first.there))
 placed_at name bytes (file ∷ files) zero d first = let h : bytes_eq file.name name ≡ true = first.has in rw h refl
 placed_at name bytes (file ∷ files) (suc i) d first = let h : bytes_eq file.name name ≡ false = first.before zero (omega arith) in rw h (ap (λ (l : List NamedBytes). file ∷ l) (placed_at name bytes files i d (later name file files i d first)))
 
+settled_at : (name : List ℕ) (files : List NamedBytes) (i : ℕ) (d : NamedBytes) → IsFirst name files i d
+    → set files i (record { name = (get_or files i d).name; bytes = (get_or files i d).bytes; is_pending = false }) ≡ settled name files
+settled_at name [] i d first = absurd (omega (arith, first.there))
+settled_at name (file ∷ files) zero d first = let h : bytes_eq file.name name ≡ true = first.has in rw h refl
+settled_at name (file ∷ files) (suc i) d first = let h : bytes_eq file.name name ≡ false = first.before zero (omega arith) in rw h (ap (λ (l : List NamedBytes). file ∷ l) (settled_at name files i d (later name file files i d first)))
+
 -- the file of this name, and what placing other bytes there makes
 pub record Found (name : List ℕ) (files : List NamedBytes) (i : ℕ) (file : NamedBytes) : Type 0 where
   pub held : held_in files name ≡ Some file.bytes
-  pub placed : (bytes : List ℕ) → set files i (record { name = file.name; bytes = bytes }) ≡ with_file name bytes files
+  pub placed : (bytes : List ℕ) → set files i (record { name = file.name; bytes = bytes; is_pending = true }) ≡ with_file name bytes files
+  pub settles : set files i (record { name = file.name; bytes = file.bytes; is_pending = false }) ≡ settled name files
 
 pub found : (name : List ℕ) (files : List NamedBytes) (i : ℕ) (file : NamedBytes) → Some i ≡ position (λ f. bytes_eq f.name name) files → file ≡ get_or files i file → Found name files i file
 found name files i file is at =
     let first = first_at name files i file (sym is) in
     record {
       held = held_at name files i file first ∙ ap (λ (f : NamedBytes). Some f.bytes) (sym at);
-      placed = λ bytes. ap (λ (f : NamedBytes). set files i (record { name = f.name; bytes = bytes })) at ∙ placed_at name bytes files i file first;
+      placed = λ bytes. ap (λ (f : NamedBytes). set files i (record { name = f.name; bytes = bytes; is_pending = true })) at ∙ placed_at name bytes files i file first;
+      settles = ap (λ (f : NamedBytes). set files i (record { name = f.name; bytes = f.bytes; is_pending = false })) at ∙ settled_at name files i file first;
     }
 
 -- no file of this name
@@ -67,19 +75,24 @@ held_absent : (name : List ℕ) (files : List NamedBytes) → IsAbsent name file
 held_absent name [] none = refl
 held_absent name (file ∷ files) none = let h = later_absent name file files none in rw h.0 (held_absent name files h.1)
 
-placed_absent : (name bytes : List ℕ) (files : List NamedBytes) → IsAbsent name files → files ++ record { name = name; bytes = bytes } ∷ [] ≡ with_file name bytes files
+placed_absent : (name bytes : List ℕ) (files : List NamedBytes) → IsAbsent name files → files ++ record { name = name; bytes = bytes; is_pending = true } ∷ [] ≡ with_file name bytes files
 placed_absent name bytes [] none = refl
 placed_absent name bytes (file ∷ files) none = let h = later_absent name file files none in rw h.0 (ap (λ (l : List NamedBytes). file ∷ l) (placed_absent name bytes files h.1))
+
+settled_absent : (name : List ℕ) (files : List NamedBytes) → IsAbsent name files → files ≡ settled name files
+settled_absent name [] none = refl
+settled_absent name (file ∷ files) none = let h = later_absent name file files none in rw h.0 (ap (λ (l : List NamedBytes). file ∷ l) (settled_absent name files h.1))
 
 -- no file of this name, and what placing bytes makes
 pub record Missing (name : List ℕ) (files : List NamedBytes) : Type 0 where
   pub held : held_in files name ≡ None
-  pub placed : (bytes : List ℕ) → files ++ record { name = name; bytes = bytes } ∷ [] ≡ with_file name bytes files
+  pub placed : (bytes : List ℕ) → files ++ record { name = name; bytes = bytes; is_pending = true } ∷ [] ≡ with_file name bytes files
+  pub settles : files ≡ settled name files
 
 pub missing : (name : List ℕ) (files : List NamedBytes) → None ≡ position (λ f. bytes_eq f.name name) files → Missing name files
 missing name files is =
     let none = absent name files (sym is) in
-    record { held = held_absent name files none; placed = λ bytes. placed_absent name bytes files none }
+    record { held = held_absent name files none; placed = λ bytes. placed_absent name bytes files none; settles = settled_absent name files none }
 
 -- ---- what other names hold
 
@@ -105,6 +118,36 @@ held_other name bytes [] other ne = let h = other_name name other (λ is. ne (sy
 held_other name bytes (file ∷ files) other ne = elim (cases_Bool (bytes_eq file.name name)) [
   | inl is ↦ let h = other_name file.name other (λ same. ne (sym same ∙ same_name file.name name is)) in rw is (rw h refl)
   | inr is ↦ rw is (ap (λ (o : Option (List ℕ)). if bytes_eq file.name other then Some file.bytes else o) (held_other name bytes files other ne))
+]
+
+-- ---- what is pending
+
+pub pending_other : (name bytes : List ℕ) (files : List NamedBytes) (other : List ℕ) → other ≢ name → pending_in (with_file name bytes files) other ≡ pending_in files other
+pending_other name bytes [] other ne = let h = other_name name other (λ is. ne (sym is)) in rw h refl
+pending_other name bytes (file ∷ files) other ne = elim (cases_Bool (bytes_eq file.name name)) [
+  | inl is ↦ let h = other_name file.name other (λ same. ne (sym same ∙ same_name file.name name is)) in rw is (rw h refl)
+  | inr is ↦ rw is (ap (λ (p : Bool). if bytes_eq file.name other then file.is_pending else p) (pending_other name bytes files other ne))
+]
+
+pub settled_here : (name : List ℕ) (files : List NamedBytes) → pending_in (settled name files) name ≡ false
+settled_here name [] = refl
+settled_here name (file ∷ files) = elim (cases_Bool (bytes_eq file.name name)) [
+  | inl is ↦ rw is (rw is refl)
+  | inr is ↦ rw is (rw is (settled_here name files))
+]
+
+pub settled_other : (name : List ℕ) (files : List NamedBytes) (other : List ℕ) → other ≢ name → pending_in (settled name files) other ≡ pending_in files other
+settled_other name [] other ne = refl
+settled_other name (file ∷ files) other ne = elim (cases_Bool (bytes_eq file.name name)) [
+  | inl is ↦ let h = other_name file.name other (λ same. ne (sym same ∙ same_name file.name name is)) in rw is (rw h refl)
+  | inr is ↦ rw is (ap (λ (p : Bool). if bytes_eq file.name other then file.is_pending else p) (settled_other name files other ne))
+]
+
+pub settled_holds : (name : List ℕ) (files : List NamedBytes) (other : List ℕ) → held_in (settled name files) other ≡ held_in files other
+settled_holds name [] other = refl
+settled_holds name (file ∷ files) other = elim (cases_Bool (bytes_eq file.name name)) [
+  | inl is ↦ rw is refl
+  | inr is ↦ rw is (ap (λ (o : Option (List ℕ)). if bytes_eq file.name other then Some file.bytes else o) (settled_holds name files other))
 ]
 
 pub torn_write : (at n : ℕ) (bytes : List ℕ) → TornWrite at n bytes bytes

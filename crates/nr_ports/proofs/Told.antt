@@ -1,8 +1,8 @@
 -- What the files in memory tell behind a call that writes.
 use Rattle.std.proofs.Common.{◌≡◌, ◌≢◌, ℕ, false, List, Option, Some, None, Ok, true, refl, sym, ap, subst, ◌∙◌}
-use Rattle.nr_spec_plans.specs.Disk.{Told, bytes_of, written, cut_to, ChangesOnly, Writes, Cuts, FailsListed, is_listed}
-use Rattle.nr_ports.specs.Ports.{MemoryFiles, NamedBytes, Numbering, counted, disk_of, told_of, fails_next, held_in, with_file, with_held}
-use Rattle.nr_ports.proofs.Names.{held_with, held_other, cut_none}
+use Rattle.nr_spec_plans.specs.Disk.{Told, bytes_of, written, cut_to, ChangesOnly, Writes, Cuts, Syncs, IsSynced, FailsListed, is_listed}
+use Rattle.nr_ports.specs.Ports.{MemoryFiles, NamedBytes, Numbering, counted, disk_of, told_of, fails_next, held_in, pending_in, settled, with_file, with_held}
+use Rattle.nr_ports.proofs.Names.{held_with, held_other, cut_none, pending_other, settled_here, settled_other, settled_holds}
 
 -- a call that isn't listed may go well
 unlisted : (m : MemoryFiles) → fails_next m.calls ≡ false → FailsListed {A = Unit {0}} (disk_of m) (Ok tt)
@@ -24,7 +24,7 @@ wrote m files calls name at from later_on none is = record {
         record {
           named = ap (λ (l : List NamedBytes). held_in l name) is ∙ held_with name (written at from (bytes_of (held_in m.files name))) m.files;
           others = λ other ne. ap (λ (l : List NamedBytes). held_in l other) is ∙ held_other name (written at from (bytes_of (held_in m.files name))) m.files other ne;
-          pending = λ other ne. refl;
+          pending = λ other ne. ap (λ (l : List NamedBytes). pending_in l other) is ∙ pending_other name (written at from (bytes_of (held_in m.files name))) m.files other ne;
           asks = refl;
           reads = refl;
           calls = ap (λ (c : Numbering). c.made) later_on;
@@ -44,6 +44,10 @@ with_other : (name : List ℕ) (file : Option (List ℕ)) (files : List NamedByt
 with_other name (Some bytes) files other ne = held_other name bytes files other ne
 with_other name None files other ne = refl
 
+pending_with : (name : List ℕ) (file : Option (List ℕ)) (files : List NamedBytes) (other : List ℕ) → other ≢ name → pending_in (with_held name file files) other ≡ pending_in files other
+pending_with name (Some bytes) files other ne = pending_other name bytes files other ne
+pending_with name None files other ne = refl
+
 pub was_cut : (m : MemoryFiles) (files : List NamedBytes) (calls : Numbering) (name : List ℕ) (len : ℕ) → calls ≡ counted m.calls → fails_next m.calls ≡ false → files ≡ with_held name (cut_to len (held_in m.files name)) m.files
     → Cuts name len (disk_of m) (disk_of (later files calls m)) (Ok tt)
 was_cut m files calls name len later_on none is = record {
@@ -56,11 +60,37 @@ was_cut m files calls name len later_on none is = record {
         record {
           named = ap (λ (l : List NamedBytes). held_in l name) is ∙ with_named name (cut_to len (held_in m.files name)) m.files (cut_none len (held_in m.files name));
           others = λ other ne. ap (λ (l : List NamedBytes). held_in l other) is ∙ with_other name (cut_to len (held_in m.files name)) m.files other ne;
-          pending = λ other ne. refl;
+          pending = λ other ne. ap (λ (l : List NamedBytes). pending_in l other) is ∙ pending_with name (cut_to len (held_in m.files name)) m.files other ne;
           asks = refl;
           reads = refl;
           calls = ap (λ (c : Numbering). c.made) later_on;
           listed = ap (λ (c : Numbering). c.failing) later_on;
+        },
+      );
+  after = refl;
+  cause = λ is. cc;
+  listed = unlisted m none;
+}
+
+pub was_synced : (m : MemoryFiles) (files : List NamedBytes) (calls : Numbering) (name : List ℕ) → calls ≡ counted m.calls → fails_next m.calls ≡ false → files ≡ settled name m.files → Syncs name (disk_of m) (disk_of (later files calls m)) (Ok tt)
+was_synced m files calls name later_on none is = record {
+  untold = λ none. absurd cc;
+  told = λ t told.
+      subst (λ (t : Told). (u : Told) × (Some (told_of (later files calls m)) ≡ Some u) × IsSynced name t u)
+      (let e : told_of m ≡ t = cc in e) (
+        told_of (later files calls m),
+        refl,
+        record {
+          changes = record {
+            named = ap (λ (l : List NamedBytes). held_in l name) is ∙ settled_holds name m.files name;
+            others = λ other ne. ap (λ (l : List NamedBytes). held_in l other) is ∙ settled_holds name m.files other;
+            pending = λ other ne. ap (λ (l : List NamedBytes). pending_in l other) is ∙ settled_other name m.files other ne;
+            asks = refl;
+            reads = refl;
+            calls = ap (λ (c : Numbering). c.made) later_on;
+            listed = ap (λ (c : Numbering). c.failing) later_on;
+          };
+          synced = ap (λ (l : List NamedBytes). pending_in l name) is ∙ settled_here name m.files;
         },
       );
   after = refl;

@@ -1,5 +1,5 @@
 -- What files and a sink in memory stand for.
-use Rattle.std.specs.Prelude.{◌==◌, ℕ, Bool, false, List, [], ◌∷◌, ◌++◌, Option, None, Some, if◌then◌else◌}
+use Rattle.std.specs.Prelude.{◌==◌, ℕ, Bool, true, false, List, [], ◌∷◌, ◌++◌, Option, None, Some, if◌then◌else◌}
 use Rattle.std.specs.List.{list_any}
 use Rattle.std.specs.Str.{bytes_eq}
 use Rattle.nr_spec_plans.specs.Disk.{Contents, Disk, Told, Tape, more}
@@ -32,6 +32,8 @@ listed number calls = record { failing = calls.failing ++ number ∷ []; made = 
 pub record NamedBytes : Type 0 where
   pub name : List ℕ
   pub bytes : List ℕ
+  -- whether a call has written or cut the file since its last sync
+  pub is_pending : Bool
 
 -- files in memory, in the order in which their names came
 pub record MemoryFiles : Type 0 where
@@ -47,10 +49,22 @@ abbrev pub held_in : List NamedBytes → Contents
 held_in [] name = None
 held_in (file ∷ others) name = if bytes_eq file.name name then Some file.bytes else held_in others name
 
--- these bytes under this name, in the place of what it held
+-- these bytes under this name, in the place of what it held, and pending
 abbrev pub with_file : List ℕ → List ℕ → List NamedBytes → List NamedBytes
-with_file name bytes [] = record { name = name; bytes = bytes } ∷ []
-with_file name bytes (file ∷ others) = if bytes_eq file.name name then record { name = file.name; bytes = bytes } ∷ others else file ∷ with_file name bytes others
+with_file name bytes [] = record { name = name; bytes = bytes; is_pending = true } ∷ []
+with_file name bytes (file ∷ others) =
+    if bytes_eq file.name name then record { name = file.name; bytes = bytes; is_pending = true } ∷ others else file ∷ with_file name bytes others
+
+-- whether something is pending under each name
+abbrev pub pending_in : List NamedBytes → List ℕ → Bool
+pending_in [] name = false
+pending_in (file ∷ others) name = if bytes_eq file.name name then file.is_pending else pending_in others name
+
+-- nothing pending under this name
+abbrev pub settled : List ℕ → List NamedBytes → List NamedBytes
+settled name [] = []
+settled name (file ∷ others) =
+    if bytes_eq file.name name then record { name = file.name; bytes = file.bytes; is_pending = false } ∷ others else file ∷ settled name others
 
 -- what a name is to hold in the place of what it held; one that is to be absent is left out of it
 abbrev pub with_held : List ℕ → Option (List ℕ) → List NamedBytes → List NamedBytes
@@ -88,7 +102,7 @@ pub record MemorySink : Type 0 where
 abbrev pub told_of : MemoryFiles → Told
 told_of m = record {
   holds = held_in m.files;
-  is_pending = λ _. false;
+  is_pending = pending_in m.files;
   asks = m.asks;
   reads = m.reads;
   calls = m.calls.made;

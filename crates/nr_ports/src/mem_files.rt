@@ -2,14 +2,14 @@
 
 ghost use Rattle.std.specs.Prelude.{◌≡◌, ◌≤◌, ◌↔◌, false, [], Some, option_map, length, is_err, IsTrue, IsErr, IfOk, OnOk, OnErr, IsErrOf};
 ghost use Rattle.nr_spec_plans.specs.Disk.{Asks, GivesAt, Writes, Cuts, Syncs, bytes_of, written, cut_to};
-ghost use Rattle.nr_ports.specs.Ports.{MemoryFiles, raised, held_in, with_file, with_held, holding, calling, listed, counted, fails_next, after_reading, disk_of};
+ghost use Rattle.nr_ports.specs.Ports.{MemoryFiles, raised, held_in, settled, with_file, with_held, holding, calling, listed, counted, fails_next, after_reading, disk_of};
 ghost use Rattle.nr_ports.specs.Views.{by_reading, by_writing};
 
 use crate::calls::Calls;
 use crate::count::raise;
 use crate::fault::{Failed, WriteFault};
 use crate::files::Files;
-use crate::stored::{File, copy_from, cut_in, find, make_room, place, write_in};
+use crate::stored::{File, copy_from, cut_in, find, make_room, place, sync_in, write_in};
 use nr_bytes::Memory;
 use std::alloc::Global;
 use std::marker::Model;
@@ -51,13 +51,15 @@ impl MemFiles {
         }
     }
 
-    /// Places bytes under a name, in the place of what it held. `Memory` leaves all as it was.
+    /// Places bytes under a name, in the place of what the name held, with nothing pending. `Memory` leaves all as it was.
     pub fn put(&mut self, name: &str, bytes: &[u8]) -> Result<(), Memory>
-        ensures ok { OnOk result (self.new ≡ holding (with_file name.now bytes.now self.old.files) self.old) }
+        ensures ok { OnOk result (self.new ≡ holding (settled name.now (with_file name.now bytes.now self.old.files)) self.old) }
         ensures memory { OnErr result (self.new ≡ self.old) }
     {
         let bytes = Vec::from_slice(self.alloc, bytes)?;
-        place(self.alloc, &mut self.files, name, bytes)
+        place(self.alloc, &mut self.files, name, bytes)?;
+        sync_in(&mut self.files, name);
+        Ok(())
     }
 
     /// The bytes under a name. `None` exactly where it is absent.
@@ -187,16 +189,17 @@ impl Files for MemFiles {
 
     // It fails exactly where its number is listed, and wants no memory.
     fn sync(&mut self, name: &str) -> Result<(), WriteFault>
-        ensures same { self.new.files ≡ self.old.files }
+        ensures settled { OnOk result (self.new.files ≡ settled name.now self.old.files) }
+        ensures nothing { OnErr result (self.new.files ≡ self.old.files) }
         ensures memory { IsErrOf result WriteFault.Memory → ⊥ }
         ensures counts { self.new.calls ≡ counted self.old.calls }
         ensures failed { IsErrOf result WriteFault.Failed ↔ IsTrue (fails_next self.old.calls) }
         ensures syncs { Syncs name.now (disk_of self.old) (disk_of self.new) (by_writing result) }
     {
-        let _name = name;
         if self.calls.begin() {
             return Err(self.fail_writing());
         }
+        sync_in(&mut self.files, name);
         Ok(())
     }
 }

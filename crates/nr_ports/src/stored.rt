@@ -1,20 +1,21 @@
 //! Files as they are stored in memory, one behind another.
 
-ghost use Rattle.std.specs.Prelude.{◌≡◌, ◌≤◌, ◌+◌, ◌-◌, min, Some, option_map, length, take, OnOk, OnErr};
+ghost use Rattle.std.specs.Prelude.{◌≡◌, ◌≤◌, ◌+◌, ◌-◌, min, Some, option_map, length, take, OnOk, OnErr, true, false};
 ghost use Rattle.std.specs.List.{position};
 ghost use Rattle.std.specs.Str.{bytes_eq};
 ghost use Rattle.nr_spec_plans.specs.Disk.{bytes_of, filled, written, cut_to};
-ghost use Rattle.nr_ports.specs.Ports.{NamedBytes, held_in, with_file, with_held};
+ghost use Rattle.nr_ports.specs.Ports.{NamedBytes, held_in, settled, with_file, with_held};
 
 use nr_bytes::Memory;
 use std::alloc::Global;
 use std::marker::Model;
 
-/// A name and its bytes.
+/// A name, its bytes, and whether these were written or cut since the last sync.
 #[derive(Drop)]
 pub struct File {
     name: String,
     bytes: Vec<u8>,
+    pending: bool,
 }
 
 impl Model for File {
@@ -23,7 +24,7 @@ impl Model for File {
 
     ghost Value = { NamedBytes };
 
-    ghost view = { λ f. record { name = string_bytes f.name; bytes = f.bytes.items } };
+    ghost view = { λ f. record { name = string_bytes f.name; bytes = f.bytes.items; is_pending = f.pending } };
 }
 
 impl File {
@@ -40,18 +41,21 @@ impl File {
     }
 
     pub fn replace(&mut self, bytes: Vec<u8>)
-        ensures { self.new ≡ record { name = self.old.name; bytes = bytes.items } }
+        ensures { self.new ≡ record { name = self.old.name; bytes = bytes.items; is_pending = true } }
     {
         self.bytes = bytes;
+        self.pending = true;
     }
 
     // Writes over what is there and past the end.
     fn write(&mut self, at: usize, from: &[u8]) -> Result<(), Memory>
         requires { at ≤ length self.old.bytes }
-        ensures ok { OnOk result (self.new ≡ record { name = self.old.name; bytes = written at from.now self.old.bytes }) }
+        ensures ok { OnOk result (self.new ≡ record { name = self.old.name; bytes = written at from.now self.old.bytes; is_pending = true }) }
         ensures memory { OnErr result (self.new ≡ self.old) }
     {
-        overwrite(&mut self.bytes, at, from)
+        overwrite(&mut self.bytes, at, from)?;
+        self.pending = true;
+        Ok(())
     }
 
     // Makes room for what a write would add.
@@ -65,9 +69,16 @@ impl File {
     }
 
     fn cut(&mut self, len: u64)
-        ensures { self.new ≡ record { name = self.old.name; bytes = take len self.old.bytes } }
+        ensures { self.new ≡ record { name = self.old.name; bytes = take len self.old.bytes; is_pending = true } }
     {
         self.bytes.truncate(len as usize);
+        self.pending = true;
+    }
+
+    fn sync(&mut self)
+        ensures { self.new ≡ record { name = self.old.name; bytes = self.old.bytes; is_pending = false } }
+    {
+        self.pending = false;
     }
 }
 
@@ -123,7 +134,11 @@ pub fn place(alloc: Global, files: &mut Vec<File>, name: &str, bytes: Vec<u8>) -
         Some(place) => files[place].replace(bytes),
         None => {
             let name = String::from_str(alloc, name)?;
-            files.push(File { name, bytes })?;
+            files.push(File {
+                name,
+                bytes,
+                pending: true,
+            })?;
         }
     }
     Ok(())
@@ -168,7 +183,11 @@ pub fn write_in(
         None => {
             let name = String::from_str(alloc, name)?;
             let bytes = Vec::from_slice(alloc, from)?;
-            files.push(File { name, bytes })?;
+            files.push(File {
+                name,
+                bytes,
+                pending: true,
+            })?;
         }
     }
     Ok(())
@@ -186,5 +205,14 @@ pub fn cut_in(alloc: Global, files: &mut Vec<File>, name: &str, len: u64) -> Res
         }
         None if len == 0 => place(alloc, files, name, Vec::new(alloc)),
         None => Ok(()),
+    }
+}
+
+/// Puts on the disk what a file holds.
+pub fn sync_in(files: &mut Vec<File>, name: &str)
+    ensures { files.new.items ≡ settled name.now files.old.items }
+{
+    if let Some(place) = place_of(files, name) {
+        files[place].sync();
     }
 }

@@ -1,11 +1,11 @@
 -- What holds of every plan, or of every plan of a kind.
-use Rattle.std.specs.Prelude.{◌≡◌, ◌≢◌, ℕ, Bool, false, List, Option, None, Some, Result, Ok, Err, option_map, take, length}
-use Rattle.nr_spec_plans.specs.Disk.{Contents, Disk, Told, Fault, more, bytes_of, ReadFault, WriteFault, Memory}
+use Rattle.std.specs.Prelude.{◌≡◌, ◌≢◌, ◌⊎◌, ℕ, Bool, false, List, [], ◌∷◌, Option, None, Some, Result, Ok, Err, option_map, take, length}
+use Rattle.nr_spec_plans.specs.Disk.{Contents, Disk, Told, Fault, more, bytes_of, ReadFault, WriteFault, Memory, Torn, TornCut, TornWrite}
 use Rattle.nr_spec_plans.specs.Plans.{Action, Answer, Ask, Read, Cut, Write, Sync, Plan, Done, Refuse, Room, Act, Halt, Refused, Faulted, Runs, save}
 
 -- ---- causes
 
--- the counts behind a step
+-- the counts after a step
 abbrev pub reads_after : {A : Type 0} → Result A Fault → ℕ → ℕ
 reads_after (Ok answer) count = count
 reads_after (Err ReadFault) count = more 1 count
@@ -102,3 +102,23 @@ Ends P (Done value) = P value
 Ends P (Refuse refusal) = Unit {0}
 Ends P (Room next) = Ends P next
 Ends P (Act action next) = (answer : Answer action) → Ends P (next answer)
+
+-- What writing these bytes to a file in whole may leave of it, whatever stopped that: what was there, what a cut to nothing
+-- that failed leaves, what a write to an empty file that failed leaves, or the bytes.
+abbrev pub IsLeftBy : (bytes : List ℕ) (old new : Option (List ℕ)) → Type 0
+IsLeftBy bytes old new = (new ≡ old) ⊎ (Torn (TornCut 0) old new ⊎ (Torn (TornWrite 0 (length bytes)) (Some []) new ⊎ (new ≡ Some bytes)))
+
+-- ---- names
+
+-- The name is one of these.
+abbrev pub IsAmong : List ℕ → List (List ℕ) → Type 0
+IsAmong name [] = ⊥
+IsAmong name (other ∷ others) = (name ≡ other) ⊎ IsAmong name others
+
+-- The step asks for, or reads, a file of the first names, or writes one of the second.
+abbrev pub Touches : (read written : List (List ℕ)) → Action → Type 0
+Touches read written (Ask name) = IsAmong name read
+Touches read written (Read name size) = IsAmong name read
+Touches read written (Cut name len) = IsAmong name written
+Touches read written (Write name at bytes) = IsAmong name written
+Touches read written (Sync name) = IsAmong name written

@@ -1,0 +1,293 @@
+-- What a run leaves of the files, and what the files make of its ending.
+use Rattle.std.proofs.Common.{◌≡◌, ◌≢◌, ℕ, ◌≤◌, List, [], ◌∷◌, Option, Some, None, Result, Ok, Err, refl, sym, ap, subst, ◌∙◌, inl, inr, ◌⊎◌, ⊎_elim, arith}
+use Rattle.std.specs.Prelude.{option_map}
+use Rattle.nr_spec_plans.specs.Disk as disk
+use Rattle.nr_spec_plans.specs.Plans.{Done, Room, Halt, Refused, Faulted, Runs, followed_by, ◌>>=◌, want, save, Action, Ask, Read, Cut, Write, Sync, Refuse, Act, Plan}
+use Rattle.nr_spec_plans.specs.Laws.{Each, IsRead, Unchanged, CountsOne, fault_in, outcome, Spares, Kept, Gives, Touches, IsAmong, IsLeftBy}
+use Rattle.nr_spec_plans.proofs.PlanLaws.{writes_nothing, counts_one, taken_apart, saved, gives_outcome, spares_others}
+use Rattle.nr_spec_plans.proofs.SaveLaws.{save_stops, save_leaves, reads_alone, outcome_goes, outcome_stops}
+use Rattle.nr_spec_history.specs.KeyFiles.{Key, key_file}
+use Rattle.netreview.specs.Words.{AuditRequest, CheckRequest, KeygenRequest, Request, Audit, Check, Keygen, request_in}
+use Rattle.netreview.specs.Command.{Work, Ending, Refusal, refusal_ending, fault_ending, key_plan, keygen_plan, plan_of, plan_in, plan_for, key_ending}
+use Rattle.netreview.specs.Running.{RunsTo, Concludes}
+use Rattle.netreview.specs.Causes.{Left, EndsBy, ended, OnlyTheSinkFails, read_names, written_names}
+use Rattle.netreview.proofs.PlanKinds.{KindReads, audit_each, check_each, key_each, keygen_each, refusal_status}
+use Rattle.netreview.proofs.StatusLaws.{ending_says, sink_alone, still_writes}
+
+-- ---- kinds of steps
+
+is_read : (name : List ℕ) → KindReads IsRead name
+is_read name = record { ask = tt; read = λ size. tt }
+
+audit_is_read : (q : AuditRequest) → Each IsRead (plan_of (Audit q))
+audit_is_read q = audit_each IsRead q (is_read q.promise) (is_read q.answer) (is_read q.auths)
+
+check_is_read : (q : CheckRequest) → Each IsRead (plan_of (Check q))
+check_is_read q = check_each IsRead q (is_read q.promise)
+
+key_is_read : (q : KeygenRequest) → Each IsRead (key_plan q)
+key_is_read q = key_each IsRead q (is_read q.seed)
+
+touches : (read written : List (List ℕ)) (name : List ℕ) → IsAmong name read → KindReads (Touches read written) name
+touches read written name is = record { ask = is; read = λ size. is }
+
+pub touches_named : (request : Request) → Each (Touches (read_names request) (written_names request)) (plan_of request)
+touches_named (Audit q) = audit_each _ q (touches _ _ q.promise (inl refl)) (touches _ _ q.answer (inr (inl refl))) (touches _ _ q.auths (inr (inr (inl refl))))
+touches_named (Keygen q) = keygen_each _ q (touches _ _ q.seed (inl refl)) (inl refl) (λ bytes. inl refl) (inl refl)
+touches_named (Check q) = check_each _ q (touches _ _ q.promise (inl refl))
+
+keygen_spares : (q : KeygenRequest) (other : List ℕ) → other ≢ q.key → Each (Spares other) (plan_of (Keygen q))
+keygen_spares q other ne = keygen_each (Spares other) q (record { ask = tt; read = λ size. tt }) ne (λ bytes. ne) ne
+
+-- ---- what the words ask for
+
+runs_for : (words : List (List ℕ)) (request : Request) (old new : disk.Disk) (result : Result Ending (Halt Refusal)) → request_in words ≡ Some request → Runs (plan_for words) old new result → Runs (Room (plan_of request)) old new result
+runs_for words request old new result is runs = subst (λ (r : Option Request). Runs (Room (plan_in r)) old new result) is runs
+
+unchanged_by : (old mid new : disk.Disk) → new ≡ mid → Unchanged old.told mid.told → Unchanged old.told new.told
+unchanged_by old mid new is u = subst (λ (d : disk.Disk). Unchanged old.told d.told) (sym is) u
+
+nothing_changed : (d : disk.Disk) → Unchanged d.told d.told
+nothing_changed d = record { holds = refl; pending = refl }
+
+-- ---- commands that write nothing
+
+audit_leaves : (words : List (List ℕ)) (q : AuditRequest) (old new : disk.Disk) (result : Result Ending (Halt Refusal)) → request_in words ≡ Some (Audit q) → Runs (plan_for words) old new result → Unchanged old.told new.told
+audit_leaves words q old new result is runs = writes_nothing (Room (plan_of (Audit q))) old new result (audit_is_read q) (runs_for words (Audit q) old new result is runs)
+
+check_leaves : (words : List (List ℕ)) (q : CheckRequest) (old new : disk.Disk) (result : Result Ending (Halt Refusal)) → request_in words ≡ Some (Check q) → Runs (plan_for words) old new result → Unchanged old.told new.told
+check_leaves words q old new result is runs = writes_nothing (Room (plan_of (Check q))) old new result (check_is_read q) (runs_for words (Check q) old new result is runs)
+
+none_leave : (words : List (List ℕ)) (old new : disk.Disk) (result : Result Ending (Halt Refusal)) → request_in words ≡ None → Runs (plan_for words) old new result → Unchanged old.told new.told
+none_leave words old new result is runs = writes_nothing (Room (plan_in None)) old new result tt (subst (λ (r : Option Request). Runs (Room (plan_in r)) old new result) is runs)
+
+-- a request with no file to write
+pub reading_leaves : (words : List (List ℕ)) (request : Option Request) (old new : disk.Disk) (result : Result Ending (Halt Refusal)) → request_in words ≡ request → ((q : KeygenRequest) → request ≢ Some (Keygen q))
+    → Runs (plan_for words) old new result → Unchanged old.told new.told
+reading_leaves words None old new result is no runs = none_leave words old new result is runs
+reading_leaves words (Some (Audit q)) old new result is no runs = audit_leaves words q old new result is runs
+reading_leaves words (Some (Keygen q)) old new result is no runs = absurd (no q refl)
+reading_leaves words (Some (Check q)) old new result is no runs = check_leaves words q old new result is runs
+
+not_write : (result : Result Ending (Halt Refusal)) → result ≢ Err (Faulted disk.WriteFault) → fault_in result ≢ Err disk.WriteFault
+not_write (Ok ending) ne is = absurd cc
+not_write (Err (Refused refusal)) ne is = absurd cc
+not_write (Err (Faulted fault)) ne is = let e : fault ≡ disk.WriteFault = cc in ne (ap (λ f. Err (Faulted f)) e)
+
+reading_alone : (words : List (List ℕ)) (request : Option Request) (old new : disk.Disk) (result : Result Ending (Halt Refusal)) → request_in words ≡ request → ((q : KeygenRequest) → request ≢ Some (Keygen q))
+    → Runs (plan_for words) old new result → result ≢ Err (Faulted disk.WriteFault)
+reading_alone words None old new result is no runs = reads_alone (Room (plan_in None)) old new result tt (subst (λ (r : Option Request). Runs (Room (plan_in r)) old new result) is runs)
+reading_alone words (Some (Audit q)) old new result is no runs = reads_alone (Room (plan_of (Audit q))) old new result (audit_is_read q) (runs_for words (Audit q) old new result is runs)
+reading_alone words (Some (Keygen q)) old new result is no runs = absurd (no q refl)
+reading_alone words (Some (Check q)) old new result is no runs = reads_alone (Room (plan_of (Check q))) old new result (check_is_read q) (runs_for words (Check q) old new result is runs)
+
+pub sink_fails : (words : List (List ℕ)) (old new : disk.Disk) (before after : disk.Tape) (status : ℕ) → ((q : KeygenRequest) → request_in words ≢ Some (Keygen q)) → RunsTo (plan_for words) old new before after status → OnlyTheSinkFails old new before after status
+sink_fails words old new before after status no run =
+    let ne = not_write run.result (reading_alone words (request_in words) old new run.result refl no run.runs) in
+    record {
+      writes = (counts_one (plan_for words) old new run.result run.runs).writes ∙ still_writes (fault_in run.result) old.write_faults ne;
+      sink = sink_alone (request_in words) run.result run.ending run.delivers.got before after status (ending_says (request_in words) old new run.result run.ending run.runs run.concludes) ne run.delivers.offers run.delivers.answers;
+    }
+
+-- ---- keygen
+
+not_three : (status : ℕ) → (status ≡ 3) ⊎ (status ≡ 7) → 0 ≡ status → ⊥
+not_three status (inl a) is = omega (arith, a, is)
+not_three status (inr a) is = omega (arith, a, is)
+
+not_zero : (fault : disk.Fault) → 0 ≡ (fault_ending fault).status → ⊥
+not_zero disk.ReadFault is = omega (arith, is)
+not_zero disk.WriteFault is = omega (arith, is)
+not_zero disk.Memory is = omega (arith, is)
+
+-- a run whose ending has status 0 has given that
+gave : (plan : Work Ending) (old new : disk.Disk) (result : Result Ending (Halt Refusal)) (e : Ending) → Runs plan old new result → Concludes result e → e.status ≡ 0 → (ending : Ending) × Runs plan old new (Ok ending)
+gave plan old new (Ok ending) e runs concludes zero = (ending, runs)
+gave plan old new (Err (Refused refusal)) e runs (inl is) zero = absurd (not_three (refusal_ending refusal).status (refusal_status refusal) (sym zero ∙ ap (λ (e : Ending). e.status) is))
+gave plan old new (Err (Refused refusal)) e runs (inr is) zero = absurd (not_zero disk.Memory (sym zero ∙ ap (λ (e : Ending). e.status) is))
+gave plan old new (Err (Faulted fault)) e runs is zero = absurd (not_zero fault (sym zero ∙ ap (λ (e : Ending). e.status) is))
+
+-- what is told behind steps that only read
+told_after : (old new : Option disk.Told) (t : disk.Told) → old ≡ Some t → Unchanged old new → (u : disk.Told) × (new ≡ Some u) × (u.holds ≡ t.holds)
+told_after None new t is u = absurd cc
+told_after (Some s) None t is u = absurd (let h = u.holds in cc)
+told_after (Some s) (Some v) t is u = (v, refl, (let e : v.holds ≡ s.holds = (let h = u.holds in cc) in let f : s ≡ t = cc in e ∙ ap (λ (t : disk.Told). t.holds) f))
+
+key_saved : (q : KeygenRequest) (key : Key) (old mid new : disk.Disk) (t m : disk.Told) (ending : Ending) → mid.told ≡ Some m → m.holds ≡ t.holds
+    → Runs {E = Refusal} (save q.key (key_file key) >>= λ done. Done (key_ending key)) mid new (Ok ending) → (u : disk.Told) × (new.told ≡ Some u) × Left q.key (key_file key) t u
+unfolding Runs
+key_saved q key old mid new t m ending told same runs =
+    ⊎_elim
+    (λ w.
+        let s = saved Refusal q.key (key_file key) mid w.0 m told w.2 in
+        (s.0, ap (λ (d : disk.Disk). d.told) w.3.0 ∙ s.1, record { holds = s.2.holds; synced = s.2.synced; others = λ other ne. s.2.others other ne ∙ ap (λ h. h other) same }))
+    (λ w. absurd (let e = w.2 in cc))
+    (taken_apart (save q.key (key_file key)) (λ done. Done (key_ending key)) mid new (Ok ending) runs)
+
+key_left : (q : KeygenRequest) (old new : disk.Disk) (t : disk.Told) (ending : Ending) → old.told ≡ Some t → Runs (plan_of (Keygen q)) old new (Ok ending)
+    → (key : Key) × (outcome t.holds (key_plan q) ≡ Ok key) × ((u : disk.Told) × (new.told ≡ Some u) × Left q.key (key_file key) t u)
+unfolding Runs followed_by plan_of keygen_plan
+key_left q old new t ending told runs =
+    ⊎_elim
+    (λ w.
+        let m = told_after old.told w.0.told t told (writes_nothing (key_plan q) old w.0 (Ok w.1) (key_is_read q) w.2) in
+        (w.1, gives_outcome (key_plan q) t.holds old w.0 (Ok w.1) (key_is_read q) (ap (option_map (λ (t : disk.Told). t.holds)) told) w.2,
+         ⊎_elim (λ none. absurd (let e = none.1 in cc)) (λ rest. key_saved q w.1 old w.0 new t m.0 ending m.1 m.2 rest) w.3))
+    (λ w. absurd (let e = w.2 in cc))
+    (taken_apart (key_plan q) _ old new (Ok ending) runs)
+
+key_left_in : (q : KeygenRequest) (old new : disk.Disk) (t : disk.Told) (ending : Ending) → old.told ≡ Some t → Runs (Room (plan_of (Keygen q))) old new (Ok ending)
+    → (key : Key) × (outcome t.holds (key_plan q) ≡ Ok key) × ((u : disk.Told) × (new.told ≡ Some u) × Left q.key (key_file key) t u)
+unfolding Runs
+key_left_in q old new t ending told (inl (same, is)) = absurd cc
+key_left_in q old new t ending told (inr runs) = key_left q old new t ending told runs
+
+pub run_left : (words : List (List ℕ)) (q : KeygenRequest) (old new : disk.Disk) (before after : disk.Tape) (status : ℕ) (t : disk.Told) → request_in words ≡ Some (Keygen q) → old.told ≡ Some t
+    → (run : RunsTo (plan_for words) old new before after status) → run.ending.status ≡ 0
+    → (key : Key) × (outcome t.holds (key_plan q) ≡ Ok key) × ((u : disk.Told) × (new.told ≡ Some u) × Left q.key (key_file key) t u)
+run_left words q old new before after status t is told run zero =
+    let g = gave (Room (plan_of (Keygen q))) old new run.result run.ending (runs_for words (Keygen q) old new run.result is run.runs) run.concludes zero in
+    key_left_in q old new t g.0 told g.1
+
+pub run_spares : (words : List (List ℕ)) (q : KeygenRequest) (other : List ℕ) (old new : disk.Disk) (before after : disk.Tape) (status : ℕ) → request_in words ≡ Some (Keygen q) → other ≢ q.key
+    → RunsTo (plan_for words) old new before after status → Kept other old.told new.told
+run_spares words q other old new before after status is ne run = spares_others other (Room (plan_of (Keygen q))) old new run.result (keygen_spares q other ne) (runs_for words (Keygen q) old new run.result is run.runs)
+
+-- whatever came of it, the key file holds what writing it in whole may leave
+MayLeave : (q : KeygenRequest) (old new : disk.Disk) (t : disk.Told) → Type 0
+MayLeave q old new t =
+    Unchanged old.told new.told ⊎ ((key : Key) × (outcome t.holds (key_plan q) ≡ Ok key) × ((u : disk.Told) × (new.told ≡ Some u) × IsLeftBy (key_file key) (t.holds q.key) (u.holds q.key)))
+
+left_by : (q : KeygenRequest) (key : Key) (mid new : disk.Disk) (t m : disk.Told) (result : Result Ending (Halt Refusal)) → mid.told ≡ Some m → m.holds ≡ t.holds
+    → Runs {E = Refusal} (save q.key (key_file key) >>= λ done. Done (key_ending key)) mid new result → (u : disk.Told) × (new.told ≡ Some u) × IsLeftBy (key_file key) (t.holds q.key) (u.holds q.key)
+unfolding Runs
+left_by q key mid new t m result told same runs =
+    ⊎_elim
+    (λ w.
+        let s = save_leaves Refusal q.key (key_file key) mid w.0 m (Ok tt) told w.2 in
+        (s.0, ap (λ (d : disk.Disk). d.told) w.3.0 ∙ s.1, subst (λ (h : disk.Contents). IsLeftBy (key_file key) (h q.key) (s.0.holds q.key)) same s.2))
+    (λ w.
+        let s = save_leaves Refusal q.key (key_file key) mid new m (Err w.0) told w.1 in
+        (s.0, s.1, subst (λ (h : disk.Contents). IsLeftBy (key_file key) (h q.key) (s.0.holds q.key)) same s.2))
+    (taken_apart (save q.key (key_file key)) (λ done. Done (key_ending key)) mid new result runs)
+
+may_leave : (q : KeygenRequest) (old new : disk.Disk) (t : disk.Told) (result : Result Ending (Halt Refusal)) → old.told ≡ Some t → Runs (plan_of (Keygen q)) old new result → MayLeave q old new t
+unfolding Runs followed_by plan_of keygen_plan MayLeave
+may_leave q old new t result told runs =
+    ⊎_elim
+    (λ w.
+        let still = writes_nothing (key_plan q) old w.0 (Ok w.1) (key_is_read q) w.2 in
+        let m = told_after old.told w.0.told t told still in
+        let gives = gives_outcome (key_plan q) t.holds old w.0 (Ok w.1) (key_is_read q) (ap (option_map (λ (t : disk.Told). t.holds)) told) w.2 in
+        ⊎_elim (λ none. inl (unchanged_by old w.0 new none.0 still)) (λ rest. inr (w.1, gives, left_by q w.1 w.0 new t m.0 result m.1 m.2 rest)) w.3)
+    (λ w. inl (writes_nothing (key_plan q) old new (Err w.0) (key_is_read q) w.1))
+    (taken_apart (key_plan q) _ old new result runs)
+
+may_leave_in : (q : KeygenRequest) (old new : disk.Disk) (t : disk.Told) (result : Result Ending (Halt Refusal)) → old.told ≡ Some t → Runs (Room (plan_of (Keygen q))) old new result → MayLeave q old new t
+unfolding Runs MayLeave
+may_leave_in q old new t result told (inl (same, is)) = inl (unchanged_by old old new same (nothing_changed old))
+may_leave_in q old new t result told (inr runs) = may_leave q old new t result told runs
+
+pub run_may_leave : (words : List (List ℕ)) (q : KeygenRequest) (old new : disk.Disk) (before after : disk.Tape) (status : ℕ) (t : disk.Told) → request_in words ≡ Some (Keygen q) → old.told ≡ Some t
+    → RunsTo (plan_for words) old new before after status
+    → Unchanged old.told new.told ⊎ ((key : Key) × (outcome t.holds (key_plan q) ≡ Ok key) × ((u : disk.Told) × (new.told ≡ Some u) × IsLeftBy (key_file key) (t.holds q.key) (u.holds q.key)))
+unfolding MayLeave
+run_may_leave words q old new before after status t is told run = may_leave_in q old new t run.result told (runs_for words (Keygen q) old new run.result is run.runs)
+
+-- ---- endings with which no file has changed
+
+faulted_ends : (result : Result Ending (Halt Refusal)) (e : Ending) (fault : disk.Fault) → result ≡ Err (Faulted fault) → Concludes result e → e.status ≡ (fault_ending fault).status
+faulted_ends (Ok ending) e fault is c = absurd cc
+faulted_ends (Err (Refused refusal)) e fault is c = absurd cc
+faulted_ends (Err (Faulted f)) e fault is c = let k : f ≡ fault = cc in ap (λ (x : Ending). x.status) (c ∙ ap fault_ending k)
+
+done_ends : (result : Result Ending (Halt Refusal)) (e ending : Ending) → result ≡ Ok ending → Concludes result e → e.status ≡ ending.status
+done_ends (Ok x) e ending is c = let k : x ≡ ending = cc in ap (λ (x : Ending). x.status) (c ∙ k)
+done_ends (Err halt) e ending is c = absurd cc
+
+-- what a save that was stopped, or went well, says of the status
+saved_ends : (result : Result Ending (Halt Refusal)) (e : Ending) (halt : Halt Refusal) → result ≡ Err halt → (halt ≡ Faulted disk.WriteFault) ⊎ (halt ≡ Faulted disk.Memory) → Concludes result e → (e.status ≡ 5) ⊎ (e.status ≡ 6)
+saved_ends result e halt is (inl by) c = inl (faulted_ends result e disk.WriteFault (is ∙ ap (λ h. Err h) by) c)
+saved_ends result e halt is (inr by) c = inr (faulted_ends result e disk.Memory (is ∙ ap (λ h. Err h) by) c)
+
+key_refused : (q : KeygenRequest) (old new : disk.Disk) (result : Result Ending (Halt Refusal)) (e : Ending) → Runs (plan_of (Keygen q)) old new result → Concludes result e → e.status ≢ 0 → e.status ≢ 5 → e.status ≢ 6 → Unchanged old.told new.told
+unfolding Runs followed_by plan_of keygen_plan key_ending
+key_refused q old new result e runs c no_zero no_five no_six =
+    ⊎_elim
+    (λ w.
+        let still = writes_nothing (key_plan q) old w.0 (Ok w.1) (key_is_read q) w.2 in
+        ⊎_elim (λ none. unchanged_by old w.0 new none.0 still)
+        (λ rest. ⊎_elim
+            (λ v. absurd (no_zero (done_ends result e (key_ending w.1) v.3.1 c)))
+            (λ v. absurd (⊎_elim (λ s. no_five s) (λ s. no_six s) (saved_ends result e v.0 v.2 (save_stops Refusal q.key (key_file w.1) w.0 new v.0 v.1) c)))
+            (taken_apart (save q.key (key_file w.1)) (λ done. Done (key_ending w.1)) w.0 new result rest))
+        w.3)
+    (λ w. writes_nothing (key_plan q) old new (Err w.0) (key_is_read q) w.1)
+    (taken_apart (key_plan q) _ old new result runs)
+
+key_refused_in : (q : KeygenRequest) (old new : disk.Disk) (result : Result Ending (Halt Refusal)) (e : Ending) → Runs (Room (plan_of (Keygen q))) old new result → Concludes result e → e.status ≢ 0 → e.status ≢ 5 → e.status ≢ 6 → Unchanged old.told new.told
+unfolding Runs
+key_refused_in q old new result e (inl (same, is)) c a b d = unchanged_by old old new same (nothing_changed old)
+key_refused_in q old new result e (inr runs) c a b d = key_refused q old new result e runs c a b d
+
+refused_leave : (words : List (List ℕ)) (request : Option Request) (old new : disk.Disk) (result : Result Ending (Halt Refusal)) (e : Ending) → request_in words ≡ request → Runs (plan_for words) old new result → Concludes result e
+    → e.status ≢ 0 → e.status ≢ 5 → e.status ≢ 6 → Unchanged old.told new.told
+refused_leave words None old new result e is runs c a b d = none_leave words old new result is runs
+refused_leave words (Some (Audit q)) old new result e is runs c a b d = audit_leaves words q old new result is runs
+refused_leave words (Some (Keygen q)) old new result e is runs c a b d = key_refused_in q old new result e (runs_for words (Keygen q) old new result is runs) c a b d
+refused_leave words (Some (Check q)) old new result e is runs c a b d = check_leaves words q old new result is runs
+
+pub run_refused : (words : List (List ℕ)) (old new : disk.Disk) (before after : disk.Tape) (status : ℕ) (run : RunsTo (plan_for words) old new before after status)
+    → run.ending.status ≢ 0 → run.ending.status ≢ 5 → run.ending.status ≢ 6 → Unchanged old.told new.told
+run_refused words old new before after status run a b d = refused_leave words (request_in words) old new run.result run.ending refl run.runs run.concludes a b d
+
+-- ---- what the files make of the ending
+
+key_outcome : (q : KeygenRequest) (held : disk.Contents) (key : Key) → outcome held (key_plan q) ≡ Ok key → outcome held (plan_of (Keygen q)) ≡ Ok (key_ending key)
+unfolding followed_by plan_of keygen_plan save
+key_outcome q held key is = outcome_goes held (key_plan q) _ key is
+
+key_gives_halt : (q : KeygenRequest) (held : disk.Contents) (halt : Halt Refusal) → Gives (outcome held (key_plan q)) (Err halt) → Gives (outcome held (plan_of (Keygen q))) (Err halt)
+unfolding followed_by plan_of keygen_plan
+key_gives_halt q held (Refused refusal) is = outcome_stops held (key_plan q) _ refusal is
+key_gives_halt q held (Faulted fault) is = tt
+
+stopped_gives : (decided : Result Ending Refusal) (halt : Halt Refusal) → (halt ≡ Faulted disk.WriteFault) ⊎ (halt ≡ Faulted disk.Memory) → Gives decided (Err halt)
+stopped_gives decided (Refused refusal) (inl is) = absurd cc
+stopped_gives decided (Refused refusal) (inr is) = absurd cc
+stopped_gives decided (Faulted fault) by = tt
+
+key_gives : (q : KeygenRequest) (held : disk.Contents) (old new : disk.Disk) (result : Result Ending (Halt Refusal)) → option_map (λ t. t.holds) old.told ≡ Some held → Runs (plan_of (Keygen q)) old new result
+    → Gives (outcome held (plan_of (Keygen q))) result
+unfolding Runs followed_by plan_of keygen_plan
+key_gives q held old new result told runs =
+    ⊎_elim
+    (λ w.
+        let gives = gives_outcome (key_plan q) held old w.0 (Ok w.1) (key_is_read q) told w.2 in
+        ⊎_elim (λ none. rw (none.1) tt)
+        (λ rest. ⊎_elim
+            (λ v. rw (v.3.1) (key_outcome q held w.1 gives))
+            (λ v. rw (v.2) (stopped_gives (outcome held (plan_of (Keygen q))) v.0 (save_stops Refusal q.key (key_file w.1) w.0 new v.0 v.1)))
+            (taken_apart (save q.key (key_file w.1)) (λ done. Done (key_ending w.1)) w.0 new result rest))
+        w.3)
+    (λ w. rw (w.2) (key_gives_halt q held w.0 (gives_outcome (key_plan q) held old new (Err w.0) (key_is_read q) told w.1)))
+    (taken_apart (key_plan q) _ old new result runs)
+
+request_gives : (request : Request) (held : disk.Contents) (old new : disk.Disk) (result : Result Ending (Halt Refusal)) → option_map (λ t. t.holds) old.told ≡ Some held → Runs (Room (plan_of request)) old new result
+    → Gives (outcome held (plan_of request)) result
+unfolding Runs
+request_gives (Audit q) held old new result told runs = gives_outcome (Room (plan_of (Audit q))) held old new result (audit_is_read q) told runs
+request_gives (Check q) held old new result told runs = gives_outcome (Room (plan_of (Check q))) held old new result (check_is_read q) told runs
+request_gives (Keygen q) held old new result told (inl (same, is)) = rw is tt
+request_gives (Keygen q) held old new result told (inr runs) = key_gives q held old new result told runs
+
+ends_by : (plan : Work Ending) (held : disk.Contents) (result : Result Ending (Halt Refusal)) (e : Ending) → Gives (outcome held plan) result → Concludes result e → EndsBy held plan result e
+ends_by plan held (Ok ending) e gives c = inl (c ∙ sym (ap ended gives))
+ends_by plan held (Err (Refused refusal)) e gives (inl is) = inl (is ∙ sym (ap ended gives))
+ends_by plan held (Err (Refused refusal)) e gives (inr is) = inr (inl is)
+ends_by plan held (Err (Faulted fault)) e gives c = inr (inr (fault, refl, c))
+
+pub run_ends_by : (words : List (List ℕ)) (request : Request) (held : disk.Contents) (old new : disk.Disk) (before after : disk.Tape) (status : ℕ) → request_in words ≡ Some request → option_map (λ t. t.holds) old.told ≡ Some held
+    → (run : RunsTo (plan_for words) old new before after status) → EndsBy held (plan_of request) run.result run.ending
+run_ends_by words request held old new before after status is told run =
+    ends_by (plan_of request) held run.result run.ending (request_gives request held old new run.result told (runs_for words request old new run.result is run.runs)) run.concludes
