@@ -119,8 +119,8 @@ unfolding Runs
 key_saved q key old mid new t m ending told same runs =
     ⊎_elim
     (λ w.
-        let s = saved Refusal q.key (key_file key) mid w.0 m told w.2 in
-        (s.0, ap (λ (d : disk.Disk). d.told) w.3.0 ∙ s.1, record { holds = s.2.holds; synced = s.2.synced; others = λ other ne. s.2.others other ne ∙ ap (λ h. h other) same }))
+    let s = saved Refusal q.key (key_file key) mid w.0 m told w.2 in
+    (s.0, ap (λ (d : disk.Disk). d.told) w.3.0 ∙ s.1, record { holds = s.2.holds; synced = s.2.synced; others = λ other ne. s.2.others other ne ∙ ap (λ h. h other) same }))
     (λ w. absurd (let e = w.2 in cc))
     (taken_apart (save q.key (key_file key)) (λ done. Done (key_ending key)) mid new (Ok ending) runs)
 
@@ -130,9 +130,11 @@ unfolding Runs followed_by plan_of keygen_plan
 key_left q old new t ending told runs =
     ⊎_elim
     (λ w.
-        let m = told_after old.told w.0.told t told (writes_nothing (key_plan q) old w.0 (Ok w.1) (key_is_read q) w.2) in
-        (w.1, gives_outcome (key_plan q) t.holds old w.0 (Ok w.1) (key_is_read q) (ap (option_map (λ (t : disk.Told). t.holds)) told) w.2,
-         ⊎_elim (λ none. absurd (let e = none.1 in cc)) (λ rest. key_saved q w.1 old w.0 new t m.0 ending m.1 m.2 rest) w.3))
+    let m = told_after old.told w.0.told t told (writes_nothing (key_plan q) old w.0 (Ok w.1) (key_is_read q) w.2) in (
+      w.1,
+      gives_outcome (key_plan q) t.holds old w.0 (Ok w.1) (key_is_read q) (ap (option_map (λ (t : disk.Told). t.holds)) told) w.2,
+      ⊎_elim (λ none. absurd (let e = none.1 in cc)) (λ rest. key_saved q w.1 old w.0 new t m.0 ending m.1 m.2 rest) w.3,
+    ))
     (λ w. absurd (let e = w.2 in cc))
     (taken_apart (key_plan q) _ old new (Ok ending) runs)
 
@@ -164,11 +166,11 @@ unfolding Runs
 left_by q key mid new t m result told same runs =
     ⊎_elim
     (λ w.
-        let s = save_leaves Refusal q.key (key_file key) mid w.0 m (Ok tt) told w.2 in
-        (s.0, ap (λ (d : disk.Disk). d.told) w.3.0 ∙ s.1, subst (λ (h : disk.Contents). IsLeftBy (key_file key) (h q.key) (s.0.holds q.key)) same s.2))
+    let s = save_leaves Refusal q.key (key_file key) mid w.0 m (Ok tt) told w.2 in
+    (s.0, ap (λ (d : disk.Disk). d.told) w.3.0 ∙ s.1, subst (λ (h : disk.Contents). IsLeftBy (key_file key) (h q.key) (s.0.holds q.key)) same s.2))
     (λ w.
-        let s = save_leaves Refusal q.key (key_file key) mid new m (Err w.0) told w.1 in
-        (s.0, s.1, subst (λ (h : disk.Contents). IsLeftBy (key_file key) (h q.key) (s.0.holds q.key)) same s.2))
+    let s = save_leaves Refusal q.key (key_file key) mid new m (Err w.0) told w.1 in
+    (s.0, s.1, subst (λ (h : disk.Contents). IsLeftBy (key_file key) (h q.key) (s.0.holds q.key)) same s.2))
     (taken_apart (save q.key (key_file key)) (λ done. Done (key_ending key)) mid new result runs)
 
 may_leave : (q : KeygenRequest) (old new : disk.Disk) (t : disk.Told) (result : Result Ending (Halt Refusal)) → old.told ≡ Some t → Runs (plan_of (Keygen q)) old new result → MayLeave q old new t
@@ -176,10 +178,10 @@ unfolding Runs followed_by plan_of keygen_plan MayLeave
 may_leave q old new t result told runs =
     ⊎_elim
     (λ w.
-        let still = writes_nothing (key_plan q) old w.0 (Ok w.1) (key_is_read q) w.2 in
-        let m = told_after old.told w.0.told t told still in
-        let gives = gives_outcome (key_plan q) t.holds old w.0 (Ok w.1) (key_is_read q) (ap (option_map (λ (t : disk.Told). t.holds)) told) w.2 in
-        ⊎_elim (λ none. inl (unchanged_by old w.0 new none.0 still)) (λ rest. inr (w.1, gives, left_by q w.1 w.0 new t m.0 result m.1 m.2 rest)) w.3)
+    let still = writes_nothing (key_plan q) old w.0 (Ok w.1) (key_is_read q) w.2 in
+    let m = told_after old.told w.0.told t told still in
+    let gives = gives_outcome (key_plan q) t.holds old w.0 (Ok w.1) (key_is_read q) (ap (option_map (λ (t : disk.Told). t.holds)) told) w.2 in
+    ⊎_elim (λ none. inl (unchanged_by old w.0 new none.0 still)) (λ rest. inr (w.1, gives, left_by q w.1 w.0 new t m.0 result m.1 m.2 rest)) w.3)
     (λ w. inl (writes_nothing (key_plan q) old new (Err w.0) (key_is_read q) w.1))
     (taken_apart (key_plan q) _ old new result runs)
 
@@ -215,13 +217,13 @@ unfolding Runs followed_by plan_of keygen_plan key_ending
 key_refused q old new result e runs c no_zero no_five no_six =
     ⊎_elim
     (λ w.
-        let still = writes_nothing (key_plan q) old w.0 (Ok w.1) (key_is_read q) w.2 in
-        ⊎_elim (λ none. unchanged_by old w.0 new none.0 still)
-        (λ rest. ⊎_elim
-            (λ v. absurd (no_zero (done_ends result e (key_ending w.1) v.3.1 c)))
-            (λ v. absurd (⊎_elim (λ s. no_five s) (λ s. no_six s) (saved_ends result e v.0 v.2 (save_stops Refusal q.key (key_file w.1) w.0 new v.0 v.1) c)))
-            (taken_apart (save q.key (key_file w.1)) (λ done. Done (key_ending w.1)) w.0 new result rest))
-        w.3)
+    let still = writes_nothing (key_plan q) old w.0 (Ok w.1) (key_is_read q) w.2 in
+    ⊎_elim (λ none. unchanged_by old w.0 new none.0 still)
+    (λ rest. ⊎_elim
+    (λ v. absurd (no_zero (done_ends result e (key_ending w.1) v.3.1 c)))
+    (λ v. absurd (⊎_elim (λ s. no_five s) (λ s. no_six s) (saved_ends result e v.0 v.2 (save_stops Refusal q.key (key_file w.1) w.0 new v.0 v.1) c)))
+    (taken_apart (save q.key (key_file w.1)) (λ done. Done (key_ending w.1)) w.0 new result rest))
+    w.3)
     (λ w. writes_nothing (key_plan q) old new (Err w.0) (key_is_read q) w.1)
     (taken_apart (key_plan q) _ old new result runs)
 
@@ -263,13 +265,13 @@ unfolding Runs followed_by plan_of keygen_plan
 key_gives q held old new result told runs =
     ⊎_elim
     (λ w.
-        let gives = gives_outcome (key_plan q) held old w.0 (Ok w.1) (key_is_read q) told w.2 in
-        ⊎_elim (λ none. rw (none.1) tt)
-        (λ rest. ⊎_elim
-            (λ v. rw (v.3.1) (key_outcome q held w.1 gives))
-            (λ v. rw (v.2) (stopped_gives (outcome held (plan_of (Keygen q))) v.0 (save_stops Refusal q.key (key_file w.1) w.0 new v.0 v.1)))
-            (taken_apart (save q.key (key_file w.1)) (λ done. Done (key_ending w.1)) w.0 new result rest))
-        w.3)
+    let gives = gives_outcome (key_plan q) held old w.0 (Ok w.1) (key_is_read q) told w.2 in
+    ⊎_elim (λ none. rw (none.1) tt)
+    (λ rest. ⊎_elim
+    (λ v. rw (v.3.1) (key_outcome q held w.1 gives))
+    (λ v. rw (v.2) (stopped_gives (outcome held (plan_of (Keygen q))) v.0 (save_stops Refusal q.key (key_file w.1) w.0 new v.0 v.1)))
+    (taken_apart (save q.key (key_file w.1)) (λ done. Done (key_ending w.1)) w.0 new result rest))
+    w.3)
     (λ w. rw (w.2) (key_gives_halt q held w.0 (gives_outcome (key_plan q) held old new (Err w.0) (key_is_read q) told w.1)))
     (taken_apart (key_plan q) _ old new result runs)
 

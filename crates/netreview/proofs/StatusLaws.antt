@@ -58,9 +58,9 @@ pub ending_says : (request : Option Request) (old new : disk.Disk) (result : Res
 ending_says request old new (Ok ending) e runs is = rw is (done_says request old new ending runs)
 ending_says request old new (Err (Refused refusal)) e runs (inl is) = rw is (says_refused request refusal (refusal_ending refusal).status (low (refusal_status refusal)))
   where
-  low : ((refusal_ending refusal).status ≡ 3) ⊎ ((refusal_ending refusal).status ≡ 7) → ((refusal_ending refusal).status ≡ 3) ⊎ ((refusal_ending refusal).status ≡ 7) ⊎ ((refusal_ending refusal).status ≡ 6)
-  low (inl a) = inl a
-  low (inr b) = inr (inl b)
+    low : ((refusal_ending refusal).status ≡ 3) ⊎ ((refusal_ending refusal).status ≡ 7) → ((refusal_ending refusal).status ≡ 3) ⊎ ((refusal_ending refusal).status ≡ 7) ⊎ ((refusal_ending refusal).status ≡ 6)
+    low (inl a) = inl a
+    low (inr b) = inr (inl b)
 ending_says request old new (Err (Refused refusal)) e runs (inr is) = rw is (says_refused request refusal 6 (inr (inr refl)))
 ending_says request old new (Err (Faulted fault)) e runs is = rw is (says_fault request fault)
 

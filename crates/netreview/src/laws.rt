@@ -58,7 +58,7 @@ pub fn keygen_may_leave()
     ensures { (words : List (List ℕ)) (q : KeygenRequest) (old new : Disk) (before after : Tape) (status : ℕ) (t : Told) → request_in words ≡ Some (Keygen q) → old.told ≡ Some t
         → RunsTo (plan_for words) old new before after status
         → Unchanged old.told new.told ⊎ ((key : Key) × (outcome t.holds (key_plan q) ≡ Ok key)
-            × ((u : Told) × (new.told ≡ Some u) × IsLeftBy (key_file key) (t.holds q.key) (u.holds q.key))) }
+        × ((u : Told) × (new.told ≡ Some u) × IsLeftBy (key_file key) (t.holds q.key) (u.holds q.key))) }
 {}
 
 /// A run of `keygen` leaves every file but its key file as it was, whatever came of the run.

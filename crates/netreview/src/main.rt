@@ -2,16 +2,24 @@
 #![tactic(auto)]
 
 mod audit;
+#[cfg(test)]
+mod audit_tests;
 mod check;
+#[cfg(test)]
+mod check_tests;
 mod commands;
 mod conflicts;
 mod ending;
 mod input;
 mod key_request;
 mod keygen;
+#[cfg(test)]
+mod keygen_tests;
 mod laws;
 mod links;
 mod numbers;
+#[cfg(test)]
+mod outside_tests;
 mod promise_file;
 mod reading;
 mod refusal;
