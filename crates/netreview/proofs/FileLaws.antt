@@ -32,9 +32,14 @@ touches : (read written : List (List ℕ)) (name : List ℕ) → IsAmong name re
 touches read written name is = record { ask = is; read = λ size. is }
 
 pub touches_named : (request : Request) → Each (Touches (read_names request) (written_names request)) (plan_of request)
-touches_named (Audit q) = audit_each _ q (touches _ _ q.promise (inl refl)) (touches _ _ q.answer (inr (inl refl))) (touches _ _ q.auths (inr (inr (inl refl))))
-touches_named (Keygen q) = keygen_each _ q (touches _ _ q.seed (inl refl)) (inl refl) (λ bytes. inl refl) (inl refl)
-touches_named (Check q) = check_each _ q (touches _ _ q.promise (inl refl))
+touches_named (Audit q) =
+    audit_each (Touches (read_names (Audit q)) (written_names (Audit q))) q
+    (touches (read_names (Audit q)) (written_names (Audit q)) q.promise (inl refl))
+    (touches (read_names (Audit q)) (written_names (Audit q)) q.answer (inr (inl refl)))
+    (touches (read_names (Audit q)) (written_names (Audit q)) q.auths (inr (inr (inl refl))))
+touches_named (Keygen q) =
+    keygen_each (Touches (read_names (Keygen q)) (written_names (Keygen q))) q (touches (read_names (Keygen q)) (written_names (Keygen q)) q.seed (inl refl)) (inl refl) (λ bytes. inl refl) (inl refl)
+touches_named (Check q) = check_each (Touches (read_names (Check q)) (written_names (Check q))) q (touches (read_names (Check q)) (written_names (Check q)) q.promise (inl refl))
 
 keygen_spares : (q : KeygenRequest) (other : List ℕ) → other ≢ q.key → Each (Spares other) (plan_of (Keygen q))
 keygen_spares q other ne = keygen_each (Spares other) q (record { ask = tt; read = λ size. tt }) ne (λ bytes. ne) ne
@@ -64,10 +69,10 @@ none_leave words old new result is runs = writes_nothing (Room (plan_in None)) o
 -- a request with no file to write
 pub reading_leaves : (words : List (List ℕ)) (request : Option Request) (old new : disk.Disk) (result : Result Ending (Halt Refusal)) → request_in words ≡ request → ((q : KeygenRequest) → request ≢ Some (Keygen q))
     → Runs (plan_for words) old new result → Unchanged old.told new.told
-reading_leaves words None old new result is no runs = none_leave words old new result is runs
-reading_leaves words (Some (Audit q)) old new result is no runs = audit_leaves words q old new result is runs
-reading_leaves words (Some (Keygen q)) old new result is no runs = absurd (no q refl)
-reading_leaves words (Some (Check q)) old new result is no runs = check_leaves words q old new result is runs
+reading_leaves words None old new result is not_keygen runs = none_leave words old new result is runs
+reading_leaves words (Some (Audit q)) old new result is not_keygen runs = audit_leaves words q old new result is runs
+reading_leaves words (Some (Keygen q)) old new result is not_keygen runs = absurd (not_keygen q refl)
+reading_leaves words (Some (Check q)) old new result is not_keygen runs = check_leaves words q old new result is runs
 
 not_write : (result : Result Ending (Halt Refusal)) → result ≢ Err (Faulted disk.WriteFault) → fault_in result ≢ Err disk.WriteFault
 not_write (Ok ending) ne is = absurd cc
@@ -76,14 +81,14 @@ not_write (Err (Faulted fault)) ne is = let e : fault ≡ disk.WriteFault = cc i
 
 reading_alone : (words : List (List ℕ)) (request : Option Request) (old new : disk.Disk) (result : Result Ending (Halt Refusal)) → request_in words ≡ request → ((q : KeygenRequest) → request ≢ Some (Keygen q))
     → Runs (plan_for words) old new result → result ≢ Err (Faulted disk.WriteFault)
-reading_alone words None old new result is no runs = reads_alone (Room (plan_in None)) old new result tt (subst (λ (r : Option Request). Runs (Room (plan_in r)) old new result) is runs)
-reading_alone words (Some (Audit q)) old new result is no runs = reads_alone (Room (plan_of (Audit q))) old new result (audit_is_read q) (runs_for words (Audit q) old new result is runs)
-reading_alone words (Some (Keygen q)) old new result is no runs = absurd (no q refl)
-reading_alone words (Some (Check q)) old new result is no runs = reads_alone (Room (plan_of (Check q))) old new result (check_is_read q) (runs_for words (Check q) old new result is runs)
+reading_alone words None old new result is not_keygen runs = reads_alone (Room (plan_in None)) old new result tt (subst (λ (r : Option Request). Runs (Room (plan_in r)) old new result) is runs)
+reading_alone words (Some (Audit q)) old new result is not_keygen runs = reads_alone (Room (plan_of (Audit q))) old new result (audit_is_read q) (runs_for words (Audit q) old new result is runs)
+reading_alone words (Some (Keygen q)) old new result is not_keygen runs = absurd (not_keygen q refl)
+reading_alone words (Some (Check q)) old new result is not_keygen runs = reads_alone (Room (plan_of (Check q))) old new result (check_is_read q) (runs_for words (Check q) old new result is runs)
 
 pub sink_fails : (words : List (List ℕ)) (old new : disk.Disk) (before after : disk.Tape) (status : ℕ) → ((q : KeygenRequest) → request_in words ≢ Some (Keygen q)) → RunsTo (plan_for words) old new before after status → OnlyTheSinkFails old new before after status
-sink_fails words old new before after status no run =
-    let ne = not_write run.result (reading_alone words (request_in words) old new run.result refl no run.runs) in
+sink_fails words old new before after status not_keygen run =
+    let ne = not_write run.result (reading_alone words (request_in words) old new run.result refl not_keygen run.runs) in
     record {
       writes = (counts_one (plan_for words) old new run.result run.runs).writes ∙ still_writes (fault_in run.result) old.write_faults ne;
       sink = sink_alone (request_in words) run.result run.ending run.delivers.got before after status (ending_says (request_in words) old new run.result run.ending run.runs run.concludes) ne run.delivers.offers run.delivers.answers;
@@ -259,6 +264,15 @@ stopped_gives decided (Refused refusal) (inl is) = absurd cc
 stopped_gives decided (Refused refusal) (inr is) = absurd cc
 stopped_gives decided (Faulted fault) by = tt
 
+found_no_room : (decided : Result Ending Refusal) (result : Result Ending (Halt Refusal)) → result ≡ Err (Faulted disk.Memory) → Gives decided result
+found_no_room decided result is = rw is tt
+
+done_gives : (decided : Result Ending Refusal) (result : Result Ending (Halt Refusal)) (ending : Ending) → result ≡ Ok ending → decided ≡ Ok ending → Gives decided result
+done_gives decided result ending is given = rw is given
+
+halted_gives : (decided : Result Ending Refusal) (result : Result Ending (Halt Refusal)) (halt : Halt Refusal) → result ≡ Err halt → Gives decided (Err halt) → Gives decided result
+halted_gives decided result halt is given = rw is given
+
 key_gives : (q : KeygenRequest) (held : disk.Contents) (old new : disk.Disk) (result : Result Ending (Halt Refusal)) → option_map (λ t. t.holds) old.told ≡ Some held → Runs (plan_of (Keygen q)) old new result
     → Gives (outcome held (plan_of (Keygen q))) result
 unfolding Runs followed_by plan_of keygen_plan
@@ -266,13 +280,13 @@ key_gives q held old new result told runs =
     ⊎_elim
     (λ w.
     let gives = gives_outcome (key_plan q) held old w.0 (Ok w.1) (key_is_read q) told w.2 in
-    ⊎_elim (λ none. rw (none.1) tt)
+    ⊎_elim (λ none. found_no_room (outcome held (plan_of (Keygen q))) result none.1)
     (λ rest. ⊎_elim
-    (λ v. rw (v.3.1) (key_outcome q held w.1 gives))
-    (λ v. rw (v.2) (stopped_gives (outcome held (plan_of (Keygen q))) v.0 (save_stops Refusal q.key (key_file w.1) w.0 new v.0 v.1)))
+    (λ v. done_gives (outcome held (plan_of (Keygen q))) result (key_ending w.1) v.3.1 (key_outcome q held w.1 gives))
+    (λ v. halted_gives (outcome held (plan_of (Keygen q))) result v.0 v.2 (stopped_gives (outcome held (plan_of (Keygen q))) v.0 (save_stops Refusal q.key (key_file w.1) w.0 new v.0 v.1)))
     (taken_apart (save q.key (key_file w.1)) (λ done. Done (key_ending w.1)) w.0 new result rest))
     w.3)
-    (λ w. rw (w.2) (key_gives_halt q held w.0 (gives_outcome (key_plan q) held old new (Err w.0) (key_is_read q) told w.1)))
+    (λ w. halted_gives (outcome held (plan_of (Keygen q))) result w.0 w.2 (key_gives_halt q held w.0 (gives_outcome (key_plan q) held old new (Err w.0) (key_is_read q) told w.1)))
     (taken_apart (key_plan q) _ old new result runs)
 
 request_gives : (request : Request) (held : disk.Contents) (old new : disk.Disk) (result : Result Ending (Halt Refusal)) → option_map (λ t. t.holds) old.told ≡ Some held → Runs (Room (plan_of request)) old new result

@@ -12,10 +12,10 @@ abbrev pub same : ℕ → ℕ
 same count = count
 
 -- The counts of read faults, of write faults and of the sink's faults have become this.
-pub record Counts (reads writes sink : ℕ → ℕ) (old new : Disk) (before after : Tape) : Type 0 where
-  pub reads : new.read_faults ≡ reads old.read_faults
-  pub writes : new.write_faults ≡ writes old.write_faults
-  pub sink : after.faults ≡ sink before.faults
+pub record Counts (of_reads of_writes of_sink : ℕ → ℕ) (old new : Disk) (before after : Tape) : Type 0 where
+  pub reads : new.read_faults ≡ of_reads old.read_faults
+  pub writes : new.write_faults ≡ of_writes old.write_faults
+  pub sink : after.faults ≡ of_sink before.faults
 
 -- Each status has its cause, by what the sink answered. The words alone decide on usage. With 4, and with 5, one count rose, by
 -- one, and with 5 through the sink beside that the count of the fault whose line the sink didn't take; with every other status
