@@ -7,7 +7,7 @@ use Rattle.nr_spec_plans.specs.Laws.{Each, IsRead, Unchanged, CountsOne, fault_i
 use Rattle.nr_spec_plans.proofs.PlanLaws.{writes_nothing, counts_one, taken_apart, saved, gives_outcome, spares_others}
 use Rattle.nr_spec_plans.proofs.SaveLaws.{save_stops, save_leaves, reads_alone, outcome_goes, outcome_stops}
 use Rattle.nr_spec_history.specs.KeyFiles.{Key, key_file}
-use Rattle.netreview.specs.Words.{AuditRequest, CheckRequest, KeygenRequest, Request, Audit, Check, Keygen, request_in}
+use Rattle.nr_spec_commands.specs.Words.{AuditRequest, CheckRequest, KeygenRequest, Request, Audit, Check, Keygen, request_in}
 use Rattle.netreview.specs.Command.{Work, Ending, Refusal, refusal_ending, fault_ending, key_plan, keygen_plan, plan_of, plan_in, plan_for, key_ending}
 use Rattle.netreview.specs.Running.{RunsTo, Concludes}
 use Rattle.netreview.specs.Causes.{Left, EndsBy, ended, OnlyTheSinkFails, read_names, written_names}

@@ -10,7 +10,7 @@ use Rattle.nr_spec_log.specs.Answer.{answer_of}
 use Rattle.nr_spec_history.specs.Report as report
 use Rattle.nr_spec_history.specs.KeyFiles.{seed_of}
 use Rattle.netreview.specs.Promises.{promise_of}
-use Rattle.netreview.specs.Words.{AuditRequest, CheckRequest, KeygenRequest, Request, Audit, Check, Keygen}
+use Rattle.nr_spec_commands.specs.Words.{AuditRequest, CheckRequest, KeygenRequest, Request, Audit, Check, Keygen}
 use Rattle.netreview.specs.Command.{Input, Work, Ending, Refusal, NoFile, Limit, Malformed, refusal_ending, load, sized, well_formed, concluded, promise_plan, check_plan, audit_plan, key_plan, keygen_plan, plan_of, input_limit, promise_ending, report_ending, key_ending}
 use Rattle.netreview.specs.Command as command
 

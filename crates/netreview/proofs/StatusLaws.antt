@@ -4,7 +4,7 @@ use Rattle.nr_spec_plans.specs.Disk as disk
 use Rattle.nr_spec_plans.specs.Plans.{Room, Halt, Refused, Faulted, Runs}
 use Rattle.nr_spec_plans.specs.Laws.{CountsOne, fault_in, reads_after, writes_after}
 use Rattle.nr_spec_plans.proofs.PlanLaws.{counts_one, ends_so}
-use Rattle.netreview.specs.Words.{Request, request_in}
+use Rattle.nr_spec_commands.specs.Words.{Request, request_in}
 use Rattle.netreview.specs.Command.{Ending, Refusal, refusal_ending, fault_ending, plan_of, plan_in, plan_for, usage_ending}
 use Rattle.netreview.specs.Running.{RunsTo, Concludes, Answers}
 use Rattle.netreview.specs.Causes.{Caused, Counts, same}

@@ -2,7 +2,7 @@
 use Rattle.std.proofs.Common.{◌≡◌, ℕ, Option, None, Ok, Err, refl, sym, subst, inl, inr}
 use Rattle.nr_spec_plans.specs.Disk.{Disk, Tape, Memory}
 use Rattle.nr_spec_plans.specs.Plans.{Room, Faulted, Runs}
-use Rattle.netreview.specs.Words.{Request}
+use Rattle.nr_spec_commands.specs.Words.{Request}
 use Rattle.netreview.specs.Command.{Work, Ending, plan_in, usage_ending, fault_ending}
 use Rattle.netreview.specs.Running.{RunsTo, Delivers}
 

@@ -3,7 +3,7 @@ use Rattle.std.specs.Prelude.{◌≡◌, ◌≢◌, ◌⊎◌, ℕ, ◌≤◌, f
 use Rattle.nr_spec_plans.specs.Disk.{Contents, Disk, Told, Tape, Fault, Memory, more}
 use Rattle.nr_spec_plans.specs.Plans.{Halt}
 use Rattle.nr_spec_plans.specs.Laws.{fault_in, outcome}
-use Rattle.netreview.specs.Words.{Request, Audit, Keygen, Check}
+use Rattle.nr_spec_commands.specs.Words.{Request, Audit, Keygen, Check}
 use Rattle.netreview.specs.Command.{Work, Ending, Refusal, refusal_ending, fault_ending}
 
 -- ---- counts

@@ -10,7 +10,7 @@ use Rattle.nr_spec_history.specs.Report.{Fact, Form, Network, Unsigned, Head, Sh
 use Rattle.nr_spec_plans.specs.Disk.{Fault, ReadFault, WriteFault, Memory}
 use Rattle.nr_spec_plans.specs.Plans.{Plan, Done, Refuse, Room, act, want, Ask, Read, save, ◌>>=◌}
 use Rattle.netreview.specs.Promises.{PromiseFile, promise_of}
-use Rattle.netreview.specs.Words.{AuditRequest, CheckRequest, KeygenRequest, Request, Audit, Keygen, Check, request_in}
+use Rattle.nr_spec_commands.specs.Words.{AuditRequest, CheckRequest, KeygenRequest, Request, Audit, Keygen, Check, request_in}
 
 -- ---- input files
 

@@ -1,4 +1,3 @@
-pub mod Words
 pub mod Promises
 pub mod Command
 pub mod Views

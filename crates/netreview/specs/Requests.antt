@@ -1,6 +1,6 @@
 -- What a request of the code stands for in the definitions.
 use Rattle.nr_spec_history.specs.Conflicts as conflicts
-use Rattle.netreview.specs.Words as words
+use Rattle.nr_spec_commands.specs.Words as words
 use Rattle.netreview.specs.declared.numbers.Period as declared_period
 use Rattle.netreview.specs.declared.request.AuditRequest as declared_audit
 use Rattle.netreview.specs.declared.key_request.KeygenRequest as declared_keygen

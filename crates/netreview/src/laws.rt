@@ -4,7 +4,7 @@ ghost use Rattle.std.specs.Prelude.{◌≡◌, ◌≢◌, ◌⊎◌, ℕ, List, 
 ghost use Rattle.nr_spec_plans.specs.Disk.{Contents, Disk, Told, Tape};
 ghost use Rattle.nr_spec_plans.specs.Laws.{CountsOne, Each, IsLeftBy, Kept, Touches, Unchanged, outcome};
 ghost use Rattle.nr_spec_history.specs.KeyFiles.{Key, key_file};
-ghost use Rattle.netreview.specs.Words.{Keygen, KeygenRequest, Request, request_in};
+ghost use Rattle.nr_spec_commands.specs.Words.{Keygen, KeygenRequest, Request, request_in};
 ghost use Rattle.netreview.specs.Command.{Ending, Work, key_plan, plan_for, plan_of};
 ghost use Rattle.netreview.specs.Running.{RunsTo};
 ghost use Rattle.netreview.specs.Causes.{Caused, EndsBy, Left, OnlyTheSinkFails, read_names, written_names};

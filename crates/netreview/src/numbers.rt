@@ -3,7 +3,7 @@
 ghost use Rattle.std.specs.Prelude.{◌≡◌, ◌≤◌, IsTrue, IfSome, option_map};
 ghost use Rattle.std.specs.Str.{all_ascii_digits};
 ghost use Rattle.std.specs.Str.Parse.{digits_value};
-ghost use Rattle.netreview.specs.Words.{is_decimal, number_in, number_from, period_between};
+ghost use Rattle.nr_spec_commands.specs.Words.{is_decimal, number_in, number_from, period_between};
 ghost use Rattle.netreview.specs.Requests.{period_of};
 
 // The greatest number that a word may write.

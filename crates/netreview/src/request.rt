@@ -3,7 +3,7 @@
 ghost use Rattle.std.specs.Prelude.{◌≡◌, map, option_map, IfOk};
 ghost use Rattle.std.specs.String.{string_bytes};
 ghost use Rattle.nr_words.specs.Views.{given_by};
-ghost use Rattle.netreview.specs.Words.{audit_in, audit_request, check_in, check_request, keygen_in, keygen_request, request_in, value_at};
+ghost use Rattle.nr_spec_commands.specs.Words.{audit_in, audit_request, check_in, check_request, keygen_in, keygen_request, request_in, value_at};
 ghost use Rattle.netreview.specs.Requests.{audit_request_of, check_request_of, keygen_request_of, request_of};
 
 use crate::key_request::KeygenRequest;
@@ -115,7 +115,7 @@ fn value_of<'a>(values: &Values<'a>, at: usize) -> Option<&'a str>
     }
 }
 
-#[tactic(auto, unfolding(crate::specs::Words::audit_in))]
+#[tactic(auto, unfolding(nr_spec_commands::specs::Words::audit_in))]
 fn audit_from<'a>(values: &Values<'a>) -> Option<AuditRequest<'a>>
     ensures { option_map audit_request_of result ≡ audit_in (given_by values.now) }
 {
@@ -153,7 +153,7 @@ fn audit_words<'a>(alloc: Global, words: &'a [String]) -> Result<Option<Request<
     }
 }
 
-#[tactic(auto, unfolding(crate::specs::Words::keygen_in))]
+#[tactic(auto, unfolding(nr_spec_commands::specs::Words::keygen_in))]
 fn keygen_from<'a>(values: &Values<'a>) -> Option<KeygenRequest<'a>>
     ensures { option_map keygen_request_of result ≡ keygen_in (given_by values.now) }
 {
@@ -186,7 +186,7 @@ fn keygen_words<'a>(alloc: Global, words: &'a [String]) -> Result<Option<Request
     }
 }
 
-#[tactic(auto, unfolding(crate::specs::Words::check_in))]
+#[tactic(auto, unfolding(nr_spec_commands::specs::Words::check_in))]
 fn check_from<'a>(values: &Values<'a>) -> Option<CheckRequest<'a>>
     ensures { option_map check_request_of result ≡ check_in (given_by values.now) }
 {
@@ -207,7 +207,7 @@ fn check_words<'a>(alloc: Global, words: &'a [String]) -> Result<Option<Request<
 }
 
 /// What the words ask for. `None` exactly where they aren't taken.
-#[tactic(auto, unfolding(crate::specs::Words::request_in))]
+#[tactic(auto, unfolding(nr_spec_commands::specs::Words::request_in))]
 pub fn request_from<'a>(alloc: Global, words: &'a [String]) -> Result<Option<Request<'a>>, Memory>
     ensures { IfOk result (λ request. option_map request_of request ≡ request_in (map string_bytes words.now)) }
 {

@@ -2,7 +2,7 @@
 
 ghost use Rattle.std.specs.Prelude.{◌≡◌, option_map};
 ghost use Rattle.nr_chain.specs.Views.{digest_bytes};
-ghost use Rattle.netreview.specs.Words.{root_in};
+ghost use Rattle.nr_spec_commands.specs.Words.{root_in};
 
 use nr_chain::Digest;
 

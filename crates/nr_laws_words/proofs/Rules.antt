@@ -27,6 +27,9 @@ filled_is (o ∷ os) files = ap (λ rs. full o ∷ rs) (filled_is os files)
 abbrev pub named : List OptionRule → Text → Option OptionRule
 named options name = find (λ o. bytes_eq o.name name) options
 
+pub same_text : (xs : Text) → bytes_eq xs xs ≡ true
+same_text xs = (bytes_eq-Decides xs xs).1 refl
+
 pub named_name : (options : List OptionRule) (name : Text) (o : OptionRule) → named options name ≡ Some o → o.name ≡ name
 named_name [] name o is = absurd cc
 named_name (p ∷ ps) name o is = go (bytes_eq p.name name) refl is (named_name ps name o)

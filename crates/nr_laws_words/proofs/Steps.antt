@@ -99,6 +99,11 @@ left_after s w after word words k faults is = left_more s w word words ∙ ap₂
 pub left_never : (s : Shape) (w : Walk) (word : Text) (words : List Text) (k : Kinds) → turn_fault s [] w word ≡ k → none k ≡ false → left s w (word ∷ words) ≡ None
 left_never s w word words k faults is = left_more s w word words ∙ ap (λ (x : Kinds). cond (none x) (left s (walked s.rules [] w word) words) None) faults ∙ ap (λ b. cond b (left s (walked s.rules [] w word) words) None) is
 
+-- a use that repeats another has one fault
+pub one_conflict : (b : Bool) → or_else (cond (b && true) (ArgumentConflict ∷ []) []) [] ≡ cond b (ArgumentConflict ∷ []) []
+one_conflict true = refl
+one_conflict false = refl
+
 module _ (options : List OptionRule) (files : Bool) where
   abbrev pub rules : List Rule
   rules = all_rules options files
@@ -115,14 +120,10 @@ module _ (options : List OptionRule) (files : Bool) where
   pub no_option_by_long : (name : Text) → named options name ≡ None → arg_by_long rules name ≡ None
   no_option_by_long name is = by_long options files name ∙ ap (option_map full) is
 
-  kept : (b : Bool) (k : Kinds) → or_else (cond (b && true) (ArgumentConflict ∷ []) []) [] ≡ cond b (ArgumentConflict ∷ []) []
-  kept true k = refl
-  kept false k = refl
-
   -- what a use that is pending comes to
   pub pending_settles : (p : Option Use) (rows : List Row) → IsKnownPending options files p → settle_fault rules false (held_with rows (pending_use p)) ≡ pending_fault p rows
   pending_settles None rows known = refl
-  pending_settles (Some (Opt name value)) rows known = rw (option_by_id name known.0 known.1, known.2) (kept (has_row name rows) [])
+  pending_settles (Some (Opt name value)) rows known = rw (option_by_id name known.0 known.1, known.2) (one_conflict (has_row name rows))
   pending_settles (Some (Put word)) rows known = rw (files_by_id known.0 known.1)
 
   pub pending_settled : (p : Option Use) (rows : List Row) → IsKnownPending options files p → settled rules (held_with rows (pending_use p)) ≡ held_with (rows_with p rows) None

@@ -8,7 +8,7 @@ use Rattle.clap.specs.Walk.{Row, Text, all_of, first_of, is_empty}
 use Rattle.clap.specs.Takes.{is_given}
 use Rattle.nr_words.specs.Grammar.{Grammar, OptionRule, Values, files_id, files_in, options_in, values_from, values_in}
 use Rattle.nr_laws_words.specs.Pairs.{Item, Apart, Joined, File, Gives, IsGiven, file_of, has_option, is_clear, is_name, is_taken, may_end, value_for}
-use Rattle.nr_laws_words.proofs.Rules.{named, named_name}
+use Rattle.nr_laws_words.proofs.Rules.{named, named_name, same_text}
 use Rattle.nr_laws_words.proofs.Looks.{empty_not}
 use Rattle.nr_laws_words.proofs.Steps.{Use, Put, IsKnown}
 use Rattle.nr_laws_words.proofs.Lexed.{lexed}
@@ -21,9 +21,6 @@ use Rattle.nr_laws_words.proofs.Items.{Reads, lexed_again, lexed_read, named_has
 not_named : (options : List OptionRule) (name : Text) → list_any (λ p. bytes_eq p.name name) options ≡ false → named options name ≡ None
 not_named [] name is = refl
 not_named (p ∷ ps) name is = let parts = or_parts (bytes_eq p.name name) _ is in rw parts.0 (not_named ps name parts.1)
-
-same_text : (xs : Text) → bytes_eq xs xs ≡ true
-same_text xs = (bytes_eq-Decides xs xs).1 refl
 
 or_still : (b c : Bool) → c ≡ true → (b || c) ≡ true
 or_still true c is = refl

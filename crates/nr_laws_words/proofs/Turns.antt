@@ -1,7 +1,6 @@
 -- What each word comes to: its fault, and where the walk stands after the word.
 use Rattle.std.proofs.Common.{◌≡◌, ◌∙◌, ◌||◌, ◌&&◌, ℕ, Bool, true, false, refl, sym, ap, ap₂, List, [], ◌∷◌, Option, Some, None, bytes_eq, slice_get, suc, length}
 use Rattle.std.specs.Str.{chars}
-use Rattle.std.proofs.lemmas.Slice.Eq.{bytes_eq-Decides}
 use Rattle.clap.specs.Lexer.{long_of, short_of}
 use Rattle.clap.specs.Walk.{Held, Row, Rule, Text, Walk, Waiting, Step, idle, option, positional, value, bundle_met, after_step, plain, plain_word, reacted, settled, walked, word_met, is_pending, pushed}
 use Rattle.clap.specs.Simple.{Shape}
@@ -12,12 +11,9 @@ use Rattle.clap.proofs.FaultLemmas.{fault_ends}
 use Rattle.clap.specs.declared.error.kind.ErrorKind.TheVariants.{UnknownArgument}
 use Rattle.nr_words.specs.Grammar.{OptionRule, files_id}
 use Rattle.nr_laws_words.specs.Pairs.{dashes}
-use Rattle.nr_laws_words.proofs.Rules.{full, file_rule, all_rules, named, by_index, by_short}
+use Rattle.nr_laws_words.proofs.Rules.{full, file_rule, all_rules, named, by_index, by_short, same_text}
 use Rattle.nr_laws_words.proofs.Looks.{NoFlags}
 use Rattle.nr_laws_words.proofs.Steps.{shape, stands, held_with, waits, option_by_id, option_by_long, no_option_by_long}
-
-same_text : (xs : Text) → bytes_eq xs xs ≡ true
-same_text xs = (bytes_eq-Decides xs xs).1 refl
 
 no_more : (k : Kinds) → or_else k [] ≡ k
 no_more [] = refl

@@ -9,7 +9,7 @@ use Rattle.clap.specs.Kinds.{Kinds, or_else}
 use Rattle.clap.specs.Faults.{check_fault, defaults_fault}
 use Rattle.clap.specs.declared.error.kind.ErrorKind.TheVariants.{MissingRequiredArgument}
 use Rattle.nr_words.specs.Grammar.{OptionRule, files_id}
-use Rattle.nr_laws_words.proofs.Rules.{all_rules, named}
+use Rattle.nr_laws_words.proofs.Rules.{all_rules, named, same_text}
 use Rattle.nr_laws_words.proofs.Looks.{empty_not}
 use Rattle.nr_laws_words.proofs.Steps.{Use, Opt, Put, IsKnown, is_repeat, none, shape, use_rows}
 use Rattle.nr_laws_words.proofs.Walks.{done, ended}
@@ -126,9 +126,6 @@ module _ (command : Text) (options : List OptionRule) (files : Bool) (apart : fi
     pub is : done command options files apart us rows ≡ cond (is_missing options end) None (Some end)
     pub good : AreGood end
     pub values : (id : Text) → vals id end ≡ vals id rows ++ flat_map (val_of id) us
-
-  same_text : (xs : Text) → bytes_eq xs xs ≡ true
-  same_text xs = (bytes_eq-Decides xs xs).1 refl
 
   no_repeat : (u : Use) (us : List Use) (rows : List Row) → IsKnown options files u → AreGood rows → AreFew (u ∷ us) rows → is_repeat u rows ≡ false
   no_repeat (Put word) us rows known good few = refl

@@ -1,5 +1,5 @@
 -- The walk of `clap` leaves what the uses of the words leave.
-use Rattle.std.proofs.Common.{◌≡◌, ◌∙◌, ◌&&◌, Bool, cond, true, false, refl, sym, ap, ap₂, List, [], ◌∷◌, Option, Some, None, bytes_eq, fold, option_and_then}
+use Rattle.std.proofs.Common.{◌≡◌, ◌∙◌, Bool, cond, true, false, refl, sym, ap, ap₂, List, [], ◌∷◌, Option, Some, None, bytes_eq, fold, option_and_then}
 use Rattle.clap.specs.Lexer.{long_of, short_of}
 use Rattle.clap.specs.Walk.{after_step, walked, Held, Row, Rule, Text, Walk, Waiting, Step, plain_word, idle, option, positional, value, with_default, has_row, settled, pushed}
 use Rattle.clap.specs.Simple.{Shape}
@@ -10,17 +10,13 @@ use Rattle.nr_words.specs.Grammar.{OptionRule, files_id}
 use Rattle.nr_laws_words.specs.Pairs.{dashes, is_plain}
 use Rattle.nr_laws_words.proofs.Rules.{full, all_rules, named, named_name}
 use Rattle.nr_laws_words.proofs.Looks.{Looks, Ends, Long, Flags, Plain, NoFlags, look}
-use Rattle.nr_laws_words.proofs.Steps.{Use, Opt, Put, IsKnownPending, between, held_with, is_repeat, left, left_after, left_never, none, pending_fault, pending_settled, pending_settles, pending_use, rows_with, shape, stands, use_rows, waiting_settles, waits, with_pending}
+use Rattle.nr_laws_words.proofs.Steps.{Use, Opt, Put, IsKnownPending, between, held_with, is_repeat, left, left_after, left_never, none, one_conflict, pending_fault, pending_settled, pending_settles, pending_use, rows_with, shape, stands, use_rows, waiting_settles, waits, with_pending}
 use Rattle.nr_laws_words.proofs.Turns.{ends_fault, ends_walked, unknown_fault, joined_fault, joined_walked, alone_fault, alone_walked, flag_fault, plain_fault, plain_walked, value_fault, value_walked, stray, file_fault, file_walked}
 use Rattle.nr_laws_words.proofs.Lexed.{and_use, trailing, lexed, lexed_ends, lexed_long, lexed_plain}
 
 settled_by : {X : Type 0} (b : Bool) (x : Option X) → cond (none (cond b (ArgumentConflict ∷ []) [])) x None ≡ cond b None x
 settled_by true x = refl
 settled_by false x = refl
-
-kept : (b : Bool) → or_else (cond (b && true) (ArgumentConflict ∷ []) []) [] ≡ cond b (ArgumentConflict ∷ []) []
-kept true = refl
-kept false = refl
 
 never : {X : Type 0} (b : Bool) → ◌≡◌ {A = Option X} (cond b None None) None
 never true = refl
@@ -134,7 +130,7 @@ module _ (command : Text) (options : List OptionRule) (files : Bool) (apart : fi
       → left s (waits rows name false) words ≡ done_of (lexed options files (Some name) words) rows
 
   use_faults : (o : OptionRule) (name v : Text) (rows : List Row) → o.name ≡ name → use_fault false (full o) (v ∷ []) rows ≡ cond (has_row name rows) (ArgumentConflict ∷ []) []
-  use_faults o name v rows is = kept (has_row o.name rows) ∙ ap (λ m. cond (has_row m rows) (ArgumentConflict ∷ []) []) is
+  use_faults o name v rows is = one_conflict (has_row o.name rows) ∙ ap (λ m. cond (has_row m rows) (ArgumentConflict ∷ []) []) is
 
   free_word : (several : Bool) (word : Text) (h : Held) → plain_word c (cond several positional idle) word h ≡ (h, value)
   free_word true word h = refl

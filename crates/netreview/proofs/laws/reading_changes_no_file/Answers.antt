@@ -1,5 +1,5 @@
 use Rattle.std.proofs.Common.{refl}
-use Rattle.netreview.specs.Words.{request_in}
+use Rattle.nr_spec_commands.specs.Words.{request_in}
 use Rattle.netreview.proofs.FileLaws.{reading_leaves}
 use Rattle.netreview.proofs.laws.reading_changes_no_file.Goals as goal
 

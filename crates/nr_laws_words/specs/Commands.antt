@@ -1,0 +1,18 @@
+-- What the words of the command line ask for, by the items that they are.
+use Rattle.std.specs.Prelude.{◌≡◌, ◌∷◌, ℕ, List, Option, Some}
+use Rattle.nr_words.specs.Grammar.{Grammar, Values}
+use Rattle.nr_spec_commands.specs.Words.{Request, Audit, Keygen, Check, audit_grammar, audit_in, check_grammar, check_in, keygen_grammar, keygen_in}
+use Rattle.nr_laws_words.specs.Pairs.{Gives}
+
+-- The words are the command word and items, whose values are read as what the command is asked for.
+pub record AsksBy {A : Type 0} (g : Grammar) (read : Values → Option A) (words : List (List ℕ)) (asked : A) : Type 0 where
+  pub others : List (List ℕ)
+  pub values : Values
+  pub command : words ≡ g.command ∷ others
+  pub gives : Gives g others values
+  pub reads : read values ≡ Some asked
+
+abbrev pub Asks : List (List ℕ) → Request → Type 0
+Asks words (Audit q) = AsksBy audit_grammar audit_in words q
+Asks words (Keygen q) = AsksBy keygen_grammar keygen_in words q
+Asks words (Check q) = AsksBy check_grammar check_in words q
