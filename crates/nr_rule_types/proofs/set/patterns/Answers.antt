@@ -1,7 +1,7 @@
 use Rattle.std.proofs.lemmas.Result.{err_from_is_err_and}
 use Rattle.std.proofs.Common.{arith}
 use Rattle.nr_rule_types.proofs.Walks.{so_far_more, so_far_fails, so_far_done}
-use Rattle.nr_rule_types.proofs.declaration.patterns.Goals as goal
+use Rattle.nr_rule_types.proofs.set.patterns.Goals as goal
 
 pub returns-in_err-pattern : goal.returns-in_err-pattern
 returns-in_err-pattern c =

@@ -2,7 +2,7 @@ use Rattle.std.proofs.Common.{◌++◌, ◌∷◌, [], ap, arith}
 use Rattle.std.proofs.lemmas.Result.{err_from_is_err_and}
 use Rattle.nr_spec_typing.specs.Steps.{◌<$>◌}
 use Rattle.nr_rule_types.proofs.Walks.{way_more, way_fails, way_done, mapped_fails}
-use Rattle.nr_rule_types.proofs.declaration.members.Goals as goal
+use Rattle.nr_rule_types.proofs.group.members.Goals as goal
 
 pub returns-in_err-number : goal.returns-in_err-number
 returns-in_err-number c =
