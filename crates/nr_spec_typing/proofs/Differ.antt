@@ -335,7 +335,7 @@ nothing_apart = record {
 known_apart : (decls : List Decl) (k : Known) → declarations decls ≡ Ok k → IsApart decls k
 known_apart decls k h = kept declaration IsApart declaration_apart [] decls nothing k nothing_apart h
 
-whole_lists : (end : ℕ) (k : Known) (network commit : Option ℕ) (t : TypedText) → whole_by end k network commit ≡ Ok t → (k.neighbours ≡ t.neighbours) × (k.promises ≡ t.promises)
+pub whole_lists : (end : ℕ) (k : Known) (network commit : Option ℕ) (t : TypedText) → whole_by end k network commit ≡ Ok t → (k.neighbours ≡ t.neighbours) × (k.promises ≡ t.promises)
 whole_lists end k None None t h = cc
 whole_lists end k None (Some m) t h = cc
 whole_lists end k (Some n) None t h = cc
