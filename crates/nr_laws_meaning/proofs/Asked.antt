@@ -1,11 +1,11 @@
 -- The questions on a route.
-use Rattle.std.proofs.Common.{◌≡◌, ◌≢◌, ℕ, ◌+◌, ◌<◌, ◌^◌, ◌==◌, Bool, true, false, cond, List, [], ◌∷◌, ◌++◌, length, Some, None, refl, ap, ◌∙◌, arith, append-nil, sym}
+use Rattle.std.proofs.Common.{◌≡◌, ◌≢◌, ℕ, ◌+◌, ◌<◌, ◌^◌, ◌==◌, Bool, true, false, cond, List, [], ◌∷◌, ◌++◌, length, refl, ap, ◌∙◌, arith, append-nil, sym}
 use Rattle.std.proofs.lemmas.Bool.Decides.{Decides-eqb}
 use Rattle.std.proofs.lemmas.List.Sums.{sum_by-append}
 use Rattle.byteorder.specs.Endian.{big_bytes, big_number}
 use Rattle.byteorder.specs.Numbers.{big_number-reads_back}
-use Rattle.nr_spec_bgp.specs.Paths.{Segment, segment_len, path_len, first_number, last_number, head_of, last_of, first_as, last_as}
-use Rattle.nr_spec_bgp.specs.Attributes.{AttributeBlock, first_of, number_of, origin_of, next_hop_of, med_of, pref_of}
+use Rattle.nr_spec_bgp.specs.Paths.{Segment, segment_len, path_len, first_number, last_number, last_of, last_as}
+use Rattle.nr_spec_bgp.specs.Attributes.{first_of, number_of}
 use Rattle.nr_laws_meaning.specs.Questions.{IsNumberOf, Numbers, sequence, Ends, Counts}
 
 reads_back : (size n : ℕ) → n < 256 ^ size → big_number size (big_bytes size n) ≡ n

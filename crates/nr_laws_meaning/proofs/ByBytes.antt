@@ -1,7 +1,6 @@
 -- What a formula says of a scene, it says of the bytes of its routes.
-use Rattle.std.proofs.Common.{◌≡◌, ℕ, List, Bool, Option, Some, None, Result, Ok, refl, ap, sym, ◌∙◌}
+use Rattle.std.proofs.Common.{◌≡◌, ℕ, List, Option, Some, None, Result, Ok, refl, ap, sym, ◌∙◌}
 use mathlib.Core.Path.{fun_ext}
-use Rattle.nr_spec_bgp.specs.Prefixes.{Cidr}
 use Rattle.nr_spec_bgp.specs.Attributes.{Attribute, AttributeBlock, attributes_in}
 use Rattle.nr_spec_typing.specs.declared.text.Neighbour.{Neighbour}
 use Rattle.nr_spec_typing.specs.declared.tree.Typing.{Typing}

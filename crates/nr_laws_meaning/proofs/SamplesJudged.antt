@@ -1,5 +1,5 @@
 -- The examples, evaluated.
-use Rattle.std.proofs.Common.{◌≡◌, refl}
+use Rattle.std.proofs.Common.{refl}
 use Rattle.nr_spec_wire.specs.Reading as reading
 use Rattle.nr_spec_bgp.specs.Paths as paths
 use Rattle.nr_spec_bgp.specs.Attributes as attributes
@@ -17,7 +17,7 @@ no_export = record {
 }
 
 pub prefer_customer : PreferCustomer
-unfolding reading.values_at paths.segment_at
+unfolding reading.rows_at paths.segment_at
 prefer_customer = record {
   other_way = simp each refl;
   by_the_customer = simp each refl;
@@ -37,7 +37,7 @@ pub reachable : Reachable
 reachable = record { sent_to_one = simp each refl; sent_to_none = simp each refl; only_received = simp each refl }
 
 pub short : Short
-unfolding reading.values_at paths.segment_at
+unfolding reading.rows_at paths.segment_at
 short = record {
   own_route = simp each refl;
   too_long = simp each refl;
@@ -51,5 +51,5 @@ pub other_router : OtherRouter
 other_router = record { by_the_other = simp each refl; by_itself = simp each refl; nothing_received = simp each refl }
 
 pub routes_read : RoutesRead
-unfolding attributes.attributes_from attributes.fields_at reading.values_at paths.segment_at
+unfolding attributes.attributes_from attributes.fields_at reading.rows_at paths.segment_at
 routes_read = record { tagged = refl; plain = refl; by_customer = refl; long = refl; unprepended = refl; merged = refl; set_first = refl }

@@ -6,10 +6,6 @@ use Rattle.std.proofs.lemmas.List.{map-append}
 use Rattle.nr_spec_bgp.specs.Paths.{path_len, first_as, last_as}
 use Rattle.nr_spec_bgp.specs.Paths as paths
 use Rattle.nr_spec_bgp.specs.Attributes.{AttributeBlock, origin_of, next_hop_of, med_of, pref_of, path_of, has_community}
-use Rattle.nr_prefix.specs.declared.set.Pattern.{Pattern}
-use Rattle.nr_rule_syntax.specs.declared.tree.Side.{Side}
-use Rattle.nr_rule_syntax.specs.declared.tree.Cmp.{Cmp}
-use Rattle.nr_spec_typing.specs.declared.name.Bound.{Bound}
 use Rattle.nr_spec_typing.specs.declared.name.Bound.TheVariants.{Neighbour, Route}
 use Rattle.nr_spec_typing.specs.declared.text.Neighbour as text
 use Rattle.nr_spec_typing.specs.declared.tree.Who.{Who}
@@ -18,8 +14,7 @@ use Rattle.nr_spec_typing.specs.declared.tree.Value.{Value}
 use Rattle.nr_spec_typing.specs.declared.tree.Value.TheVariants as values
 use Rattle.nr_spec_typing.specs.declared.tree.Typing.{Typing, map-Typing, roll-Typing, fold-roll-Typing, ind-Typing}
 use Rattle.nr_spec_typing.specs.declared.tree.Typing.TheOpen.{Typing-F}
-use Rattle.nr_spec_typing.specs.Scopes.{same_bound}
-use Rattle.nr_spec_typing.specs.Guarantees.{stands_for, is_variable, is_who, is_value, are_neighbours, is_pattern, is_next, Fitting, fits_step, fits, IsPromise, IsTyped}
+use Rattle.nr_spec_typing.specs.Guarantees.{is_variable, is_who, is_value, are_neighbours, is_next, Fitting, fits_step, fits, IsPromise, IsTyped}
 use Rattle.nr_spec_typing.specs.declared.text.Promise.{Promise}
 use Rattle.nr_spec_typing.specs.Declarations.{TypedText}
 use Rattle.std.proofs.lemmas.List.Elements.{All-weaker}

@@ -14,7 +14,7 @@ use Rattle.nr_spec_typing.specs.declared.tree.Value.{Value}
 use Rattle.nr_spec_typing.specs.declared.tree.Value.TheVariants as values
 use Rattle.nr_spec_typing.specs.declared.tree.Typing.{Typing}
 use Rattle.nr_spec_typing.specs.declared.tree.Typing.TheVariants as t
-use Rattle.nr_spec_typing.specs.Meaning.{Scene, Thing, neighbour, route}
+use Rattle.nr_spec_typing.specs.Meaning.{neighbour, route}
 use Rattle.nr_laws_meaning.specs.Words.{Place, truth, Holds, Means, next, inside, Counts}
 
 -- ---- `true`, `false`, `not`, `and`, `or`, `implies`

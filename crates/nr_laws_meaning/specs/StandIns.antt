@@ -1,5 +1,5 @@
 -- The meaning of formulas where any answer may stand in for a variable or a neighbour that is missing.
-use Rattle.std.specs.Prelude.{ℕ, ◌<◌, Bool, ◌==◌, List, [], ◌∷◌, map, slice_get, Option, Some, None, is_some}
+use Rattle.std.specs.Prelude.{ℕ, ◌<◌, ◌==◌, List, [], ◌∷◌, map, slice_get, Option, Some, None, is_some}
 use Rattle.nr_spec_bgp.specs.Paths.{path_len, first_as, last_as}
 use Rattle.nr_spec_bgp.specs.Paths as paths
 use Rattle.nr_spec_bgp.specs.Attributes.{AttributeBlock, origin_of, next_hop_of, med_of, pref_of, path_of, has_community}

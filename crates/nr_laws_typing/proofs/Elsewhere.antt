@@ -33,7 +33,7 @@ use Rattle.nr_spec_typing.specs.Steps.{◌<$>◌, all_of, in_turn}
 use Rattle.nr_spec_typing.specs.Scopes.{Scope, meaning, variable, who_by, who, route_by, route, group_by, set_by, set, is_fresh, new_variable, bind}
 use Rattle.nr_spec_typing.specs.Scopes as scopes
 use Rattle.nr_spec_typing.specs.Forms.{Typer, typed_step, typed, each, value, implies, over_group, conditional, crosses, is_same, compared}
-use Rattle.nr_spec_typing.specs.Declarations.{TypedText, Known, nothing, is_group, is_define, is_new, declare, most_seconds, at_most, network, commit, same_number, is_like, is_neighbour_name, key_of, neighbour, member_by, member, add_member, members, group, most_of, pattern, define, places_by, places, promise, declaration, declarations, whole_by, whole, typed_text}
+use Rattle.nr_spec_typing.specs.Declarations.{Known, nothing, is_group, is_define, is_new, declare, most_seconds, at_most, network, commit, same_number, is_like, is_neighbour_name, key_of, neighbour, member_by, member, add_member, members, group, most_of, pattern, define, places_by, places, promise, declaration, declarations, whole_by, whole, typed_text}
 use Rattle.nr_laws_typing.specs.Moved.{Move, moved_fault, moved_span, moved_name, moved_number, moved_term, moved_step, moved_form, moved_key, moved_most, moved_pattern, moved_prefix, moved_declaration, moved}
 use Rattle.nr_laws_typing.proofs.TypedByParts.{typed-True, typed-False, typed-Not, typed-And, typed-Or, typed-Implies, typed-All, typed-Some, typed-If, typed-Stands, typed-Has, typed-Crosses, typed-Is, typed-PrefixIn, typed-Compare}
 
@@ -358,8 +358,8 @@ promise_moved to k name grace at form =
     }) in
     let there = moved_name to name in
     wants_then to (is_new k.names name && nat_lt (length k.promises) 256) name.span.from name there
-    (λ called. at_most most_seconds grace >>= (λ seconds. places at >>= (λ prefixes. typed form (scope name) >>= (λ held. make called seconds prefixes held))))
-    (λ called. at_most most_seconds (moved_number to grace) >>= (λ seconds. places (map (moved_prefix to) at) >>= (λ prefixes. typed (moved_form to form) (scope name) >>= (λ held. make called seconds prefixes held))))
+    (λ called. at_most most_seconds grace >>= (λ seconds. places at >>= (λ prefixes. typed form (scope called) >>= (λ held. make called seconds prefixes held))))
+    (λ called. at_most most_seconds (moved_number to grace) >>= (λ seconds. places (map (moved_prefix to) at) >>= (λ prefixes. typed (moved_form to form) (scope called) >>= (λ held. make called seconds prefixes held))))
     (then_moved to (at_most most_seconds grace) (at_most most_seconds (moved_number to grace))
     (λ seconds. places at >>= (λ prefixes. typed form (scope name) >>= (λ held. make name seconds prefixes held)))
     (λ seconds. places (map (moved_prefix to) at) >>= (λ prefixes. typed (moved_form to form) (scope name) >>= (λ held. make there seconds prefixes held))) (at_most_moved to most_seconds grace)

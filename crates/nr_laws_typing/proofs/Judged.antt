@@ -1,10 +1,10 @@
 -- The fault of a file is its first mistake.
-use Rattle.std.proofs.Common.{◌≡◌, ℕ, zero, suc, ◌+◌, ◌<◌, ◌≤◌, cond, Bool, true, false, ◌&&◌, ◌||◌, ◌==◌, not, List, [], ◌∷◌, ◌++◌, map, length, slice_get, nat_lt, nat_le, is_none, is_some, count_by, Option, Some, None, Result, Ok, Err, refl, ap, sym, subst, ◌∙◌, ◌⊎◌, inl, inr, arith, append_assoc, append-nil}
+use Rattle.std.proofs.Common.{◌≡◌, ℕ, ◌+◌, ◌<◌, ◌≤◌, cond, Bool, true, false, ◌&&◌, ◌||◌, ◌==◌, not, List, [], ◌∷◌, ◌++◌, map, length, slice_get, nat_lt, nat_le, is_none, is_some, count_by, Option, Some, None, Ok, refl, ap, sym, subst, ◌∙◌, ◌⊎◌, inl, inr, arith}
 use Rattle.std.specs.List.{list_any, flat_map}
 use Rattle.std.specs.Str.{bytes_eq}
 use Rattle.std.proofs.lemmas.List.{length-append}
 use Rattle.std.proofs.lemmas.List.Folds.{list_any-append}
-use Rattle.std.proofs.lemmas.Bool.Decides.{nat_tests, Decides-eqb}
+use Rattle.std.proofs.lemmas.Bool.Decides.{Decides-eqb}
 use Rattle.nr_chain.specs.declared.digest.Digest.{Digest}
 use Rattle.nr_spec_rules.specs.declared.span.Span.{Span}
 use Rattle.nr_spec_bgp.specs.Prefixes.{Cidr}
@@ -25,12 +25,12 @@ use Rattle.nr_spec_typing.specs.declared.name.Declared.{Declared}
 use Rattle.nr_spec_typing.specs.declared.text.Neighbour.{Neighbour}
 use Rattle.nr_spec_typing.specs.declared.text.Promise.{Promise}
 use Rattle.nr_spec_typing.specs.declared.tree.Typing.{Typing}
-use Rattle.nr_spec_typing.specs.Steps.{◌<$>◌, all_of, in_turn}
+use Rattle.nr_spec_typing.specs.Steps.{all_of, in_turn}
 use Rattle.nr_spec_typing.specs.Scopes.{Scope, meaning}
 use Rattle.nr_spec_typing.specs.Forms.{typed}
 use Rattle.nr_spec_typing.specs.Declarations as text
 use Rattle.nr_spec_typing.specs.Declarations.{TypedText, Known, nothing, declare, at_most, network, commit, is_like, is_neighbour_name, key_of, neighbour, member_by, member, add_member, members, group, most_of, pattern, define, places_by, places, promise, declaration, declarations, whole_by, whole, typed_text}
-use Rattle.nr_spec_typing.proofs.Fitting.{mapped, chained, passed, left, right}
+use Rattle.nr_spec_typing.proofs.Fitting.{mapped, chained, passed}
 use Rattle.nr_spec_typing.specs.declared.name.Variable.{Variable}
 use Rattle.nr_spec_typing.specs.declared.name.Bound.TheVariants.{Neighbour as ForNeighbour}
 use Rattle.nr_laws_typing.specs.Uses as want

@@ -9,10 +9,8 @@ use Rattle.nr_rule_syntax.specs.declared.tree.Name.{Name}
 use Rattle.nr_spec_typing.specs.declared.name.Bound.{Bound}
 use Rattle.nr_spec_typing.specs.declared.name.Bound.TheVariants.{Neighbour, Route}
 use Rattle.nr_spec_typing.specs.declared.name.Variable.{Variable}
-use Rattle.nr_spec_typing.specs.declared.tree.Who.TheVariants as whos
 use Rattle.nr_spec_typing.specs.Scopes.{Scope, meaning, same_bound, is_called, variable, who_by, who, route_by, route, is_fresh, new_variable, bind}
 use Rattle.nr_spec_typing.proofs.Fitting.{passed, left, right}
-use Rattle.nr_spec_typing.specs.Apart.{NoTwo}
 use Rattle.nr_laws_typing.specs.Resolved.{SameWord, AreNamed, IsNext, Resolves}
 use Rattle.nr_spec_typing.proofs.Differ.{no_two_more, none_like}
 

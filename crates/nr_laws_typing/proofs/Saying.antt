@@ -1,13 +1,8 @@
 -- What is said, declaration by declaration.
-use Rattle.std.proofs.Common.{◌≡◌, ℕ, zero, suc, ◌+◌, ◌<◌, ◌≤◌, Bool, true, false, ◌&&◌, ◌||◌, ◌==◌, not, cond, List, [], ◌∷◌, ◌++◌, map, length, slice_get, nat_lt, nat_le, is_none, is_some, count_by, Option, Some, None, Result, Ok, ◌⊎◌, inl, inr, refl, ap, sym, subst, ◌∙◌, arith, append_assoc, append-nil}
+use Rattle.std.proofs.Common.{◌≡◌, ℕ, true, ◌&&◌, List, [], ◌∷◌, ◌++◌, map, length, slice_get, nat_lt, nat_le, is_none, count_by, Option, Some, None, Ok, refl, ap, sym, subst, ◌∙◌, append-nil}
 use Rattle.std.proofs.lemmas.List.{map-append}
 use Rattle.std.proofs.lemmas.Grind.{flat_map-append}
-use Rattle.std.proofs.lemmas.List.Folds.{list_any-append}
-use Rattle.std.specs.List.{All, list_any, flat_map}
-use Rattle.std.specs.Str.{bytes_eq}
-use Rattle.std.specs.Bool.{Decides}
-use Rattle.std.proofs.lemmas.Slice.Eq.{bytes_eq-Decides}
-use Rattle.std.proofs.lemmas.Bool.Decides.{nat_tests, Decides-eqb}
+use Rattle.std.specs.List.{flat_map}
 use Rattle.nr_chain.specs.declared.digest.Digest.{Digest}
 use Rattle.nr_spec_rules.specs.declared.span.Span.{Span}
 use Rattle.nr_spec_bgp.specs.Prefixes.{Cidr}
@@ -22,17 +17,15 @@ use Rattle.nr_rule_syntax.specs.declared.tree.Form.{Form}
 use Rattle.nr_rule_syntax.specs.declared.tree.File.{File}
 use Rattle.nr_rule_syntax.specs.declared.tree.Decl.{Decl}
 use Rattle.nr_rule_syntax.specs.declared.tree.Decl.TheVariants as decls
-use Rattle.nr_spec_typing.specs.declared.name.Named.{Named}
 use Rattle.nr_spec_typing.specs.declared.name.Named.TheVariants as named
-use Rattle.nr_spec_typing.specs.declared.name.Declared.{Declared}
 use Rattle.nr_spec_typing.specs.declared.text.Neighbour.{Neighbour}
 use Rattle.nr_spec_typing.specs.declared.text.Promise.{Promise}
 use Rattle.nr_spec_typing.specs.declared.tree.Typing.{Typing}
-use Rattle.nr_spec_typing.specs.Steps.{◌<$>◌, all_of, in_turn}
-use Rattle.nr_spec_typing.specs.Scopes.{Scope, meaning}
+use Rattle.nr_spec_typing.specs.Steps.{all_of}
+use Rattle.nr_spec_typing.specs.Scopes.{Scope}
 use Rattle.nr_spec_typing.specs.Forms.{typed}
-use Rattle.nr_spec_typing.specs.Declarations.{TypedText, Known, nothing, is_group, is_define, is_new, declare, most_seconds, at_most, network, commit, same_number, is_like, is_neighbour_name, key_of, neighbour, members, group, pattern, define, places_by, places, promise, declaration, declarations, whole_by, whole, typed_text}
-use Rattle.nr_spec_typing.proofs.Fitting.{mapped, chained, passed, both, left, right}
+use Rattle.nr_spec_typing.specs.Declarations.{TypedText, Known, nothing, is_group, is_define, is_new, declare, most_seconds, at_most, network, commit, is_neighbour_name, key_of, neighbour, members, group, pattern, define, places_by, places, promise, declaration, declarations, whole_by, whole, typed_text}
+use Rattle.nr_spec_typing.proofs.Fitting.{mapped, chained, passed}
 use Rattle.nr_laws_typing.specs.Says.{key_said, Head, head_of, network_in, commit_in, neighbour_in, head_in, Says}
 use Rattle.nr_spec_typing.proofs.Differ.{kept}
 

@@ -1,5 +1,5 @@
 -- The tree of a promise, along the declarations.
-use Rattle.std.proofs.Common.{◌≡◌, ℕ, zero, suc, Bool, true, ◌&&◌, List, [], ◌∷◌, ◌++◌, length, slice_get, nat_lt, is_none, count_by, Option, Some, None, Result, Ok, refl, ap, sym, subst, ◌∙◌}
+use Rattle.std.proofs.Common.{◌≡◌, ℕ, zero, suc, true, ◌&&◌, List, [], ◌∷◌, ◌++◌, length, slice_get, nat_lt, is_none, count_by, Option, Some, Result, Ok, refl, ap, sym, subst, ◌∙◌}
 use Rattle.nr_chain.specs.declared.digest.Digest.{Digest}
 use Rattle.nr_spec_rules.specs.declared.span.Span.{Span}
 use Rattle.nr_spec_bgp.specs.Prefixes.{Cidr}
@@ -15,17 +15,14 @@ use Rattle.nr_rule_syntax.specs.declared.tree.File.{File}
 use Rattle.nr_rule_syntax.specs.declared.tree.Decl.{Decl}
 use Rattle.nr_rule_syntax.specs.declared.tree.Decl.TheVariants as decls
 use Rattle.nr_spec_typing.specs.declared.name.Named.TheVariants as named
-use Rattle.nr_spec_typing.specs.declared.text.Neighbour.{Neighbour}
 use Rattle.nr_spec_typing.specs.declared.text.Promise.{Promise}
 use Rattle.nr_spec_typing.specs.declared.tree.Typing.{Typing}
 use Rattle.nr_spec_typing.specs.Steps.{all_of, in_turn}
 use Rattle.nr_spec_typing.specs.Scopes.{Scope}
 use Rattle.nr_spec_typing.specs.Forms.{typed}
-use Rattle.nr_spec_typing.specs.Declarations.{TypedText, Known, nothing, is_group, is_define, is_new, declare, most_seconds, at_most, network, commit, is_neighbour_name, key_of, neighbour, members, group, pattern, define, places, promise, declaration, declarations, whole_by, whole, typed_text}
+use Rattle.nr_spec_typing.specs.Declarations.{TypedText, Known, nothing, is_group, is_define, is_new, declare, most_seconds, at_most, network, commit, is_neighbour_name, key_of, neighbour, members, group, pattern, define, places, promise, declaration, declarations, whole, typed_text}
 use Rattle.nr_spec_typing.proofs.Fitting.{chained, passed}
 use Rattle.nr_spec_typing.proofs.Differ.{kept, whole_lists}
-use Rattle.nr_laws_typing.specs.Uses.{APromise}
-use Rattle.nr_laws_typing.specs.Fine.{is_a}
 use Rattle.nr_laws_typing.specs.Trees.{HasTree}
 use Rattle.nr_laws_typing.proofs.Judged.{Mirrors, nothing_mirrors, declaration_mirrors}
 

@@ -1,5 +1,5 @@
 -- The typing of a written-out formula, by its parts.
-use Rattle.std.proofs.Common.{◌≡◌, ℕ, List, [], map, length, Result, Ok, refl, ap, sym, ◌∙◌}
+use Rattle.std.proofs.Common.{◌≡◌, ℕ, List, map, length, Ok, ap, sym, ◌∙◌}
 use Rattle.nr_rule_syntax.specs.declared.tree.Name.{Name}
 use Rattle.nr_rule_syntax.specs.declared.tree.Side.{Side}
 use Rattle.nr_rule_syntax.specs.declared.tree.Cmp.{Cmp}
@@ -8,7 +8,6 @@ use Rattle.nr_rule_syntax.specs.declared.tree.Form.{Form, map-Form, roll-Form, f
 use Rattle.nr_rule_syntax.specs.declared.tree.Form.TheOpen.{Form-F}
 use Rattle.nr_rule_syntax.specs.declared.tree.Form.TheVariants.{rolls-True, rolls-False, rolls-Not, rolls-And, rolls-Or, rolls-Implies, rolls-All, rolls-Some, rolls-If, rolls-Stands, rolls-Has, rolls-Crosses, rolls-Is, rolls-PrefixIn, rolls-Compare}
 use Rattle.nr_rule_syntax.specs.declared.tree.Form.TheVariants as forms
-use Rattle.nr_spec_typing.specs.declared.tree.Typing.{Typing}
 use Rattle.nr_spec_typing.specs.declared.tree.Typing.TheVariants as typings
 use Rattle.nr_spec_typing.specs.Steps.{◌<$>◌}
 use Rattle.nr_spec_typing.specs.Scopes.{Scope, who, route, set}
@@ -61,4 +60,3 @@ typed-PrefixIn name s = told (Form-F.PrefixIn name) (forms.PrefixIn name) s (rol
 
 pub typed-Compare : (left : Term) (op : Cmp) (right : Term) (s : Scope) → typed (forms.Compare left op right) s ≡ compared left op right s
 typed-Compare left op right s = told (Form-F.Compare left op right) (forms.Compare left op right) s (rolls-Compare left op right)
-

@@ -4,7 +4,6 @@ use Rattle.std.specs.List.{list_any, flat_map, position_or_len}
 use Rattle.std.proofs.lemmas.Bool.Decides.{nat_tests}
 use Rattle.std.specs.Str.{bytes_eq}
 use Rattle.std.proofs.lemmas.List.{map-append}
-use Rattle.nr_prefix.specs.declared.set.Pattern.{Pattern}
 use Rattle.nr_spec_wire.specs.Reading.{◌>>=◌, wants, fault}
 use Rattle.nr_rule_syntax.specs.declared.tree.Name.{Name}
 use Rattle.nr_rule_syntax.specs.declared.tree.Side.{Side}
@@ -15,14 +14,10 @@ use Rattle.nr_rule_syntax.specs.declared.tree.Form.{Form, map-Form, roll-Form, f
 use Rattle.nr_rule_syntax.specs.declared.tree.Form.TheOpen.{Form-F}
 use Rattle.nr_spec_typing.specs.declared.name.Named.{Named}
 use Rattle.nr_spec_typing.specs.declared.name.Named.TheVariants as named
-use Rattle.nr_spec_typing.specs.declared.name.Declared.{Declared}
-use Rattle.nr_spec_typing.specs.declared.name.Bound.{Bound}
 use Rattle.nr_spec_typing.specs.declared.name.Bound.TheVariants.{Neighbour, Route}
 use Rattle.nr_spec_typing.specs.declared.name.Variable.{Variable}
-use Rattle.nr_spec_typing.specs.declared.tree.Who.{Who}
 use Rattle.nr_spec_typing.specs.declared.tree.Value.{Value}
 use Rattle.nr_spec_typing.specs.declared.tree.Value.TheVariants as values
-use Rattle.nr_spec_typing.specs.declared.tree.Typing.{Typing}
 use Rattle.nr_spec_typing.specs.declared.tree.Typing.TheVariants as typings
 use Rattle.nr_spec_typing.specs.Steps.{◌<$>◌, all_of}
 use Rattle.nr_spec_typing.specs.Scopes.{Scope, meaning, is_called, variable, who_by, who, route_by, route, group_by, group, set_by, set, is_fresh, new_variable, bind}

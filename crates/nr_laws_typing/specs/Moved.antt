@@ -1,5 +1,5 @@
 -- A file whose tokens stand elsewhere: a function takes each place to another.
-use Rattle.std.specs.Prelude.{ℕ, List, map, Option, Some, None, Result, Ok, Err}
+use Rattle.std.specs.Prelude.{ℕ, map, Option, Some, None, Result, Ok, Err}
 use Rattle.nr_spec_rules.specs.declared.span.Span.{Span}
 use Rattle.nr_rule_syntax.specs.declared.tree.Name.{Name}
 use Rattle.nr_rule_syntax.specs.declared.tree.Num.{Num}
