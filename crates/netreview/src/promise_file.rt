@@ -1,6 +1,8 @@
 //! Promise files.
 
-ghost use Rattle.std.specs.Prelude.{◌≤◌, length};
+ghost use Rattle.std.specs.Prelude.{◌≤◌, length, IfOk};
+ghost use Rattle.std.specs.List.{All};
+ghost use Rattle.nr_rule_syntax.specs.Nesting.{IsNested};
 ghost use Rattle.netreview.specs.Promises.{promise_of};
 ghost use Rattle.netreview.specs.Command.{promise_plan, well_formed, PromiseInput};
 ghost use Rattle.netreview.specs.Views.{promise_file_of, Does, Judges};
@@ -24,7 +26,8 @@ pub struct PromiseFile {
 #[tactic(auto, unfolding(crate::specs::Promises::promise_of))]
 fn promise_from(alloc: Global, text: &[u8]) -> Result<PromiseFile, Stop>
     requires { length text.now ≤ 1048576 }
-    ensures { Judges promise_file_of result (well_formed PromiseInput (promise_of text.now)) }
+    ensures value { Judges promise_file_of result (well_formed PromiseInput (promise_of text.now)) }
+    ensures nests { IfOk result (λ promise. All IsNested promise.file.decls) }
 {
     let file = parse(alloc, text)?;
     let says = check(alloc, &file)?;
@@ -34,7 +37,8 @@ fn promise_from(alloc: Global, text: &[u8]) -> Result<PromiseFile, Stop>
 /// What the promise file of this name says.
 #[tactic(auto, using(nr_spec_plans::proofs::PlanLemmas::planning, crate::proofs::PlanSteps::settling), unfolding(crate::specs::Command::promise_plan, nr_spec_plans::specs::Plans::Runs, nr_spec_plans::specs::Plans::followed_by))]
 pub fn read_promise<F: Files>(alloc: Global, files: &mut F, name: &str) -> Result<PromiseFile, Stop>
-    ensures { Does promise_file_of (promise_plan name.now) (F.disk files.old) (F.disk files.new) result }
+    ensures value { Does promise_file_of (promise_plan name.now) (F.disk files.old) (F.disk files.new) result }
+    ensures nests { IfOk result (λ promise. All IsNested promise.file.decls) }
 {
     let text = read_input(alloc, files, Input::Promise, name)?;
     promise_from(alloc, &text)

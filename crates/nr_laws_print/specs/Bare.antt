@@ -80,10 +80,12 @@ bare_prefix p = record { prefix = p.prefix; span = nowhere }
 abbrev pub bare_declaration : Decl → Decl
 bare_declaration (decls.Network value span) = decls.Network (bare_number value) nowhere
 bare_declaration (decls.Commit value span) = decls.Commit (bare_number value) nowhere
-bare_declaration (decls.Neighbour name asn addr key) = decls.Neighbour (bare_name name) (bare_number asn) (bare_number addr) (bare_key key)
+bare_declaration (decls.Neighbour name asn addr key) =
+    decls.Neighbour (bare_name name) (bare_number asn) (bare_number addr) (bare_key key)
 bare_declaration (decls.Group name members) = decls.Group (bare_name name) (map bare_name members)
 bare_declaration (decls.Define name patterns) = decls.Define (bare_name name) (map bare_pattern patterns)
-bare_declaration (decls.Promise name grace at form) = decls.Promise (bare_name name) (bare_number grace) (map bare_prefix at) (bare_form form)
+bare_declaration (decls.Promise name grace at form) =
+    decls.Promise (bare_name name) (bare_number grace) (map bare_prefix at) (bare_form form)
 
 -- a file without its places
 abbrev pub bare : File → File

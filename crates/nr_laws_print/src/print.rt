@@ -22,6 +22,7 @@ pub fn written_file_is_read_back()
 /// Files that say the same have one text, and no others have it.
 pub fn one_text_for_what_is_said()
     ensures same_text { (a b : File) → SameButSpans a b → file_text a ≡ file_text b }
-    ensures same_file { (a b : File) → All IsWritten a.decls → All IsNested a.decls → All IsWritten b.decls → All IsNested b.decls
+    ensures same_file { (a b : File) → All IsWritten a.decls → All IsNested a.decls
+        → All IsWritten b.decls → All IsNested b.decls
         → file_text a ≡ file_text b → SameButSpans a b }
 {}

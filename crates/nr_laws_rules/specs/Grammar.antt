@@ -61,15 +61,19 @@ IsArgument = do
 -- NUMBER | ADDRESS | "bits" | ( "length" | "med" | "pref" | "origin" | "first" | "last" | "hop" | "asn" ) "(" NAME ")"
 unfoldable pub IsTerm : StandsFor Term
 IsTerm =
-    (terms.Number <$> IsNumber) or (terms.Number <$> IsAddress) or (token k.Bits >> gives terms.Bits) or (token k.Length >> terms.Length <$> IsArgument)
-    or (token k.Med >> terms.Med <$> IsArgument) or (token k.Pref >> terms.Pref <$> IsArgument) or (token k.Origin >> terms.Origin <$> IsArgument)
-    or (token k.First >> terms.First <$> IsArgument) or (token k.Last >> terms.Last <$> IsArgument) or (token k.Hop >> terms.Hop <$> IsArgument)
+    (terms.Number <$> IsNumber) or (terms.Number <$> IsAddress) or (token k.Bits >> gives terms.Bits)
+    or (token k.Length >> terms.Length <$> IsArgument)
+    or (token k.Med >> terms.Med <$> IsArgument) or (token k.Pref >> terms.Pref <$> IsArgument)
+    or (token k.Origin >> terms.Origin <$> IsArgument)
+    or (token k.First >> terms.First <$> IsArgument) or (token k.Last >> terms.Last <$> IsArgument)
+    or (token k.Hop >> terms.Hop <$> IsArgument)
     or (token k.Asn >> terms.Asn <$> IsArgument)
 
 -- "=" | "!=" | "<" | "<=" | ">" | ">="
 unfoldable pub IsCmp : StandsFor Cmp
 IsCmp =
-    (token k.Equal >> gives cmps.Eq) or (token k.Unequal >> gives cmps.Ne) or (token k.Less >> gives cmps.Lt) or (token k.LessOrEqual >> gives cmps.Le)
+    (token k.Equal >> gives cmps.Eq) or (token k.Unequal >> gives cmps.Ne) or (token k.Less >> gives cmps.Lt)
+    or (token k.LessOrEqual >> gives cmps.Le)
     or (token k.Greater >> gives cmps.Gt) or (token k.GreaterOrEqual >> gives cmps.Ge)
 
 -- Term Cmp Term
@@ -84,12 +88,15 @@ IsCompared = do
 
 -- ( "sent" | "received" ) "(" NAME ")"
 unfoldable pub IsRoute : StandsFor (Side × Name)
-IsRoute = (token k.Sent >> (λ of. (sides.Sent, of)) <$> IsArgument) or (token k.Received >> (λ of. (sides.Received, of)) <$> IsArgument)
+IsRoute =
+    (token k.Sent >> (λ of. (sides.Sent, of)) <$> IsArgument)
+    or (token k.Received >> (λ of. (sides.Received, of)) <$> IsArgument)
 
 -- "has" COMMUNITY | "crosses" Term | "is" NAME, behind a NAME
 unfoldable pub IsAbout : Name → StandsFor Form
 IsAbout var =
-    (token k.Has >> (λ c. forms.Has var c) <$> IsCommunity) or (token k.Crosses >> (λ t. forms.Crosses var t) <$> IsTerm)
+    (token k.Has >> (λ c. forms.Has var c) <$> IsCommunity)
+    or (token k.Crosses >> (λ t. forms.Crosses var t) <$> IsTerm)
     or (token k.Is >> (λ right. forms.Is var right) <$> IsName)
 
 -- "prefix" "in" NAME
@@ -156,7 +163,8 @@ IsConditional inside = do
 unfoldable pub IsAtom : Inside → StandsFor Form
 IsAtom inside =
     (token k.True >> gives forms.True) or (token k.False >> gives forms.False) or IsParenthesized inside
-    or ((λ x. forms.All x.0 x.1 x.2) <$> IsOverGroup k.All inside) or ((λ x. forms.Some x.0 x.1 x.2) <$> IsOverGroup k.Some inside) or IsConditional inside
+    or ((λ x. forms.All x.0 x.1 x.2) <$> IsOverGroup k.All inside)
+    or ((λ x. forms.Some x.0 x.1 x.2) <$> IsOverGroup k.Some inside) or IsConditional inside
     or ((λ from. forms.Stands from.0 from.1) <$> IsRoute) or (IsName >>= IsAbout) or IsInSet or IsCompared
 
 -- ---- formulas
@@ -242,7 +250,8 @@ IsPattern = do
   (do
     token k.Le
     most ← IsNumber
-    gives (record { prefix = base.prefix; most = Some most; span = base.span })) or gives (record { prefix = base.prefix; most = None; span = base.span })
+    gives (record { prefix = base.prefix; most = Some most; span = base.span }))
+      or gives (record { prefix = base.prefix; most = None; span = base.span })
 
 -- "define" NAME "=" Pattern { "," Pattern } ";"
 unfoldable pub IsDefine : StandsFor Decl
@@ -280,7 +289,8 @@ IsPromise = do
 -- "network" NUMBER ";" | "commit" NUMBER ";" | Neighbour | Group | Define | Promise
 unfoldable pub IsDecl : StandsFor Decl
 IsDecl =
-    ((λ x. decls.Network x.0 x.1) <$> IsNumbered k.Network) or ((λ x. decls.Commit x.0 x.1) <$> IsNumbered k.Commit) or IsNeighbour or IsGroup or IsDefine
+    ((λ x. decls.Network x.0 x.1) <$> IsNumbered k.Network) or ((λ x. decls.Commit x.0 x.1) <$> IsNumbered k.Commit)
+    or IsNeighbour or IsGroup or IsDefine
     or IsPromise
 
 -- { Decl }, and the end of the text

@@ -15,7 +15,8 @@ gives a ts value = (ts ≡ []) × (value ≡ a)
 -- one part, and behind it what the value of the first makes the other
 infixl 10 ◌>>=◌
 abbrev pub ◌>>=◌ : {A B : Type 0} → StandsFor A → (A → StandsFor B) → StandsFor B
-◌>>=◌ {A} R S ts value = (a : A) × (front : List Token) × (back : List Token) × (ts ≡ front ++ back) × R front a × S a back value
+◌>>=◌ {A} R S ts value =
+    (a : A) × (front : List Token) × (back : List Token) × (ts ≡ front ++ back) × R front a × S a back value
 
 -- one part, and behind it another
 infixl 10 ◌>>◌

@@ -10,5 +10,6 @@ pub record IsRefusedAt (ts : List Token) (refused : Token) : Type 0 where
   pub before : List Token
   pub behind : List Token
   pub split : ts ≡ before ++ refused ∷ behind
-  pub can_go_on : (other : List ℕ) × (more : List Token) × (tokens_of other ≡ before ++ more) × (file : File) × IsFile (before ++ more) file
+  pub can_go_on : (other : List ℕ) × (more : List Token) × (tokens_of other ≡ before ++ more)
+      × (file : File) × IsFile (before ++ more) file
   pub cannot_go_on : (more : List Token) (file : File) → IsFile (before ++ refused ∷ more) file → ⊥

@@ -23,7 +23,8 @@ IsRun test bytes behind = (list_all test bytes ≡ true) × Ends test behind
 abbrev pub IsLongest : List ℕ → List ℕ → Type 0
 IsLongest [] behind = Unit {0}
 IsLongest (b ∷ bytes) behind =
-    (is_ascii_alphabetic b ≡ true → IsRun in_word (b ∷ bytes) behind) × (is_ascii_digit b ≡ true → IsRun in_figure (b ∷ bytes) behind)
+    (is_ascii_alphabetic b ≡ true → IsRun in_word (b ∷ bytes) behind)
+    × (is_ascii_digit b ≡ true → IsRun in_figure (b ∷ bytes) behind)
 
 -- the same of a token, in the text where it stands
 abbrev pub IsLongestIn : List ℕ → Token → Type 0
@@ -67,4 +68,5 @@ pub record IsNext (at : ℕ) (text : List ℕ) (t : Token) (Rest : List ℕ → 
 -- The text from this place on is these tokens, one behind another, up to its end or to the first fault.
 abbrev pub Spells : ℕ → List ℕ → List Token → Type 0
 Spells at text [] = ⊥
-Spells at text (t ∷ more) = IsNext at text t (λ behind. IsSpelledBehind t.kind t.text behind more (Spells (t.from + length t.text) behind more))
+Spells at text (t ∷ more) =
+    IsNext at text t (λ behind. IsSpelledBehind t.kind t.text behind more (Spells (t.from + length t.text) behind more))

@@ -8,7 +8,8 @@ ghost use Rattle.nr_laws_rules.specs.Refusal.{IsRefusedAt};
 /// A refusal has its reason: where a text is refused, the first token that the grammar refuses stands at the
 /// place. The tokens before it begin another text that is a file; no file begins with these and it.
 pub fn named_token_is_first_refused()
-    ensures { (text : List ℕ) (place : ℕ) → file_of text ≡ Err place → (t : Token) × (t.from ≡ place) × IsRefusedAt (tokens_of text) t }
+    ensures { (text : List ℕ) (place : ℕ) → file_of text ≡ Err place
+        → (t : Token) × (t.from ≡ place) × IsRefusedAt (tokens_of text) t }
 {}
 
 /// The reason gives the refusal: a text with such a token is refused, at the token's place.

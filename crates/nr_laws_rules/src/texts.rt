@@ -26,5 +26,6 @@ pub fn file_ends_at_its_length()
 
 /// A text that ends too early is refused at its length.
 pub fn early_end_is_refused_at_the_length()
-    ensures { (text : List ℕ) (t : Token) → IsRefusedAt (tokens_of text) t → t.kind ≡ End → file_of text ≡ Err (length text) }
+    ensures { (text : List ℕ) (t : Token) → IsRefusedAt (tokens_of text) t → t.kind ≡ End
+        → file_of text ≡ Err (length text) }
 {}

@@ -28,15 +28,31 @@ most_within least members = most (map (levels_within least) members)
 abbrev pub flat : Measured
 flat = record { binds = 3; levels = 0 }
 
+abbrev pub negated : Measured → Measured
+negated held = record { binds = 3; levels = levels_within 3 held + 1 }
+
+abbrev pub conjoined : List Measured → Measured
+conjoined members = record { binds = 2; levels = most_within 3 members }
+
+abbrev pub disjoined : List Measured → Measured
+disjoined members = record { binds = 1; levels = most_within 2 members }
+
+abbrev pub implied : Measured → Measured → Measured
+implied left right = record { binds = 0; levels = max (levels_within 1 left) (right.levels + 1) }
+
+-- what stands in braces, or between `then` and `end`
+abbrev pub enclosed : ℕ → Measured
+enclosed levels = record { binds = 3; levels = levels + 1 }
+
 -- one formula, with those that it holds in their place
 abbrev pub measured_step : Form-F Measured → Measured
-measured_step (Form-F.Not held) = record { binds = 3; levels = levels_within 3 held + 1 }
-measured_step (Form-F.And members) = record { binds = 2; levels = most_within 3 members }
-measured_step (Form-F.Or members) = record { binds = 1; levels = most_within 2 members }
-measured_step (Form-F.Implies left right) = record { binds = 0; levels = max (levels_within 1 left) (right.levels + 1) }
-measured_step (Form-F.All var group form) = record { binds = 3; levels = form.levels + 1 }
-measured_step (Form-F.Some var group form) = record { binds = 3; levels = form.levels + 1 }
-measured_step (Form-F.If var side of then_ else_) = record { binds = 3; levels = max then_.levels else_.levels + 1 }
+measured_step (Form-F.Not held) = negated held
+measured_step (Form-F.And members) = conjoined members
+measured_step (Form-F.Or members) = disjoined members
+measured_step (Form-F.Implies left right) = implied left right
+measured_step (Form-F.All var group form) = enclosed form.levels
+measured_step (Form-F.Some var group form) = enclosed form.levels
+measured_step (Form-F.If var side of then_ else_) = enclosed (max then_.levels else_.levels)
 measured_step _ = flat
 
 abbrev pub measured : Form → Measured

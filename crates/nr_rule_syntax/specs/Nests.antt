@@ -6,16 +6,22 @@ use Rattle.nr_spec_rules.specs.Tokens.{Token}
 use Rattle.nr_rule_syntax.specs.declared.tree.Form.{Form}
 use Rattle.nr_rule_syntax.specs.declared.formula.Level.{Level}
 use Rattle.nr_rule_syntax.specs.declared.fault.ParseError.{ParseError}
-use Rattle.nr_rule_syntax.specs.Views.{Reads, IsOnward}
+use Rattle.nr_rule_syntax.specs.Views.{Reads, AreNoMore}
 use Rattle.nr_rule_syntax.specs.Reading.{inside}
 use Rattle.nr_rule_syntax.specs.Nesting.{IsInside}
 
-pub record Nests (levels : ℕ) (pre : Global → MutBor (List Token) → ℕ → Level → Type 0)
-    (post : Global → MutBor (List Token) → ℕ → Level → Result Form ParseError → MutBor (List Token) → Type 0) : Type 0 where
+-- what a call of the function value takes and answers
+abbrev pub Pre : Type 1
+Pre = Global → MutBor (List Token) → ℕ → Level → Type 0
+
+abbrev pub Post : Type 1
+Post = Global → MutBor (List Token) → ℕ → Level → Result Form ParseError → MutBor (List Token) → Type 0
+
+pub record Nests (levels : ℕ) (pre : Pre) (post : Post) : Type 0 where
   pub callable : (alloc : Global) (old : MutBor (List Token)) (level : Level) → pre alloc old levels level
-  pub reads : (alloc : Global) (old new : MutBor (List Token)) (level : Level) (r : Result Form ParseError) → post alloc old levels level r new
-      → Reads (inside levels level old.now) r new.now
-  pub onward : (alloc : Global) (old new : MutBor (List Token)) (level : Level) (r : Result Form ParseError) → post alloc old levels level r new
-      → IsOnward old.now new.now
-  pub nests : (alloc : Global) (old new : MutBor (List Token)) (level : Level) (r : Result Form ParseError) → post alloc old levels level r new
-      → IfOk r (IsInside levels level)
+  pub reads : (alloc : Global) (old new : MutBor (List Token)) (level : Level) (r : Result Form ParseError)
+      → post alloc old levels level r new → Reads (inside levels level old.now) r new.now
+  pub onward : (alloc : Global) (old new : MutBor (List Token)) (level : Level) (r : Result Form ParseError)
+      → post alloc old levels level r new → AreNoMore old.now new.now
+  pub nests : (alloc : Global) (old new : MutBor (List Token)) (level : Level) (r : Result Form ParseError)
+      → post alloc old levels level r new → IfOk r (IsInside levels level)

@@ -61,7 +61,8 @@ comparison_text cmps.Gt = codes ">"
 comparison_text cmps.Ge = codes ">="
 
 abbrev pub compared_text : Term → Cmp → Term → List ℕ
-compared_text left op right = spelled (term_text left ∷ codes " " ∷ comparison_text op ∷ codes " " ∷ term_text right ∷ [])
+compared_text left op right =
+    spelled (term_text left ∷ codes " " ∷ comparison_text op ∷ codes " " ∷ term_text right ∷ [])
 
 abbrev pub side_text : Side → List ℕ
 side_text Sent = codes "sent"
@@ -111,10 +112,14 @@ printed_step Form-F.False = tight (codes "false" ∷ [])
 printed_step (Form-F.Not held) = tight (codes "not " ∷ within 3 held ∷ [])
 printed_step (Form-F.And members) = record { binds = 2; text = members_text (codes " and ") 3 members }
 printed_step (Form-F.Or members) = record { binds = 1; text = members_text (codes " or ") 2 members }
-printed_step (Form-F.Implies left right) = record { binds = 0; text = spelled (within 1 left ∷ codes " implies " ∷ right.text ∷ []) }
-printed_step (Form-F.All var group form) = tight (codes "all " ∷ pair_text var (codes " in ") group ∷ codes " { " ∷ form.text ∷ codes " }" ∷ [])
-printed_step (Form-F.Some var group form) = tight (codes "some " ∷ pair_text var (codes " in ") group ∷ codes " { " ∷ form.text ∷ codes " }" ∷ [])
-printed_step (Form-F.If var side of then_ else_) = tight (bound_text var side of ∷ then_.text ∷ codes " else " ∷ else_.text ∷ codes " end" ∷ [])
+printed_step (Form-F.Implies left right) =
+    record { binds = 0; text = spelled (within 1 left ∷ codes " implies " ∷ right.text ∷ []) }
+printed_step (Form-F.All var group form) =
+    tight (codes "all " ∷ pair_text var (codes " in ") group ∷ codes " { " ∷ form.text ∷ codes " }" ∷ [])
+printed_step (Form-F.Some var group form) =
+    tight (codes "some " ∷ pair_text var (codes " in ") group ∷ codes " { " ∷ form.text ∷ codes " }" ∷ [])
+printed_step (Form-F.If var side of then_ else_) =
+    tight (bound_text var side of ∷ then_.text ∷ codes " else " ∷ else_.text ∷ codes " end" ∷ [])
 printed_step (Form-F.Stands side of) = tight (route_text side of ∷ [])
 printed_step (Form-F.Has var community) = tight (has_text var community ∷ [])
 printed_step (Form-F.Crosses var term) = tight (crosses_text var term ∷ [])
@@ -129,7 +134,8 @@ printed = fold-Form Printed printed_step
 
 abbrev pub key_text : Option (RootText × Num) → List ℕ
 key_text None = []
-key_text (Some (root, number)) = spelled (codes " root #" ∷ encode_lower root.digest.0 ∷ codes " number " ∷ decimal number.value ∷ [])
+key_text (Some (root, number)) =
+    spelled (codes " root #" ∷ encode_lower root.digest.0 ∷ codes " number " ∷ decimal number.value ∷ [])
 
 -- a greatest length only where one was written
 abbrev pub most_text : Option Num → List ℕ
@@ -147,7 +153,8 @@ prefix_text p = cidr_text p.prefix
 
 abbrev pub places_text : List PrefixText → List ℕ
 places_text [] = []
-places_text (first ∷ more) = spelled (codes " at " ∷ prefix_text first ∷ each_behind (codes ", ") (map prefix_text more) ∷ [])
+places_text (first ∷ more) =
+    spelled (codes " at " ∷ prefix_text first ∷ each_behind (codes ", ") (map prefix_text more) ∷ [])
 
 -- a word, a number, and the end of the line
 abbrev pub numbered_text : List ℕ → ℕ → List ℕ
@@ -161,13 +168,17 @@ abbrev pub declaration_text : Decl → List ℕ
 declaration_text (Network value span) = numbered_text (codes "network ") value.value
 declaration_text (Commit value span) = numbered_text (codes "commit ") value.value
 declaration_text (Neighbour name asn addr key) =
-    spelled (head_text (codes "neighbour ") name (codes " as ") ∷ decimal asn.value ∷ codes " at " ∷ address_text addr.value ∷ key_text key ∷ codes ";\n" ∷ [])
+    spelled (head_text (codes "neighbour ") name (codes " as ") ∷ decimal asn.value ∷ codes " at "
+    ∷ address_text addr.value ∷ key_text key ∷ codes ";\n" ∷ [])
 declaration_text (Group name members) =
-    spelled (head_text (codes "group ") name (codes " = ") ∷ joined (codes ", ") (map name_text members) ∷ codes ";\n" ∷ [])
+    spelled (head_text (codes "group ") name (codes " = ")
+    ∷ joined (codes ", ") (map name_text members) ∷ codes ";\n" ∷ [])
 declaration_text (Define name patterns) =
-    spelled (head_text (codes "define ") name (codes " = ") ∷ joined (codes ", ") (map pattern_text patterns) ∷ codes ";\n" ∷ [])
+    spelled (head_text (codes "define ") name (codes " = ")
+    ∷ joined (codes ", ") (map pattern_text patterns) ∷ codes ";\n" ∷ [])
 declaration_text (Promise name grace at form) =
-    spelled (head_text (codes "promise ") name (codes " grace ") ∷ decimal grace.value ∷ places_text at ∷ codes " { " ∷ (printed form).text ∷ codes " }\n" ∷ [])
+    spelled (head_text (codes "promise ") name (codes " grace ") ∷ decimal grace.value ∷ places_text at
+    ∷ codes " { " ∷ (printed form).text ∷ codes " }\n" ∷ [])
 
 -- the one text of a file
 abbrev pub file_text : File → List ℕ

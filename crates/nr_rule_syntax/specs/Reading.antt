@@ -197,7 +197,8 @@ atom levels inside = λ ts. atom_by levels inside (kind_of ts) ts
 
 -- `not Not`, or an atom
 unfoldable pub negation : ℕ → Inside → Parser Form
-negation levels inside = λ ts. if sees k.Not ts then (opens levels >> forms.Not <$> inside Member) ts else atom levels inside ts
+negation levels inside =
+    λ ts. if sees k.Not ts then (opens levels >> forms.Not <$> inside Member) ts else atom levels inside ts
 
 -- `Not { and Not }`: a list of two or more, or the one
 unfoldable pub conjunction : ℕ → Inside → Parser Form
@@ -211,7 +212,9 @@ disjunction levels inside = chain k.Or forms.Or (conjunction levels inside)
 unfoldable pub formula : ℕ → Inside → Parser Form
 formula levels inside = do
   left ← disjunction levels inside
-  (λ ts. if sees k.Implies ts then (opens levels >> (λ right. forms.Implies left right) <$> inside Whole) ts else Ok (left, ts))
+  (λ ts. if sees k.Implies ts
+      then (opens levels >> (λ right. forms.Implies left right) <$> inside Whole) ts
+      else Ok (left, ts))
 
 -- what stands behind a token that opens a level: a formula, or behind `not` a member of a chain
 unfoldable pub inside : ℕ → Level → Parser Form

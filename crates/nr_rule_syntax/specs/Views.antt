@@ -20,6 +20,6 @@ abbrev pub Answers : {A : Type 0} → Result A ℕ → Result A ParseError → T
 Answers read (Ok x) = read ≡ Ok x
 Answers read (Err e) = Fails read e
 
--- New stands where old does or behind it.
-abbrev pub IsOnward : List Token → List Token → Type 0
-IsOnward old new = length new ≤ length old
+-- No more tokens are left than before.
+abbrev pub AreNoMore : List Token → List Token → Type 0
+AreNoMore old new = length new ≤ length old

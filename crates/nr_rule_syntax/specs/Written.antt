@@ -109,4 +109,5 @@ IsWritten (Commit value span) = IsNumber value
 IsWritten (Neighbour name asn addr key) = IsName name × IsNumber asn × IsNumber addr × IsKey key
 IsWritten (Group name members) = IsName name × AreSome IsName members
 IsWritten (Define name patterns) = IsName name × AreSome IsPattern patterns
-IsWritten (Promise name grace at form) = IsName name × IsNumber grace × AllByRecursion IsPrefix at × (is_written form ≡ true)
+IsWritten (Promise name grace at form) =
+    IsName name × IsNumber grace × AllByRecursion IsPrefix at × (is_written form ≡ true)

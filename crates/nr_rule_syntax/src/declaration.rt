@@ -7,7 +7,7 @@ ghost use Rattle.nr_spec_rules.specs.declared.kind.Kind.TheVariants as k;
 ghost use Rattle.std.specs.List.{All};
 ghost use Rattle.nr_rule_syntax.specs.Nesting.{IsNested};
 ghost use Rattle.nr_rule_syntax.specs.Reading as spec;
-ghost use Rattle.nr_rule_syntax.specs.Views.{Reads, IsOnward};
+ghost use Rattle.nr_rule_syntax.specs.Views.{Reads, AreNoMore};
 
 use crate::fault::ParseError;
 use crate::formula::whole_formula;
@@ -35,7 +35,7 @@ fn numbered(tokens: &mut Tokens<'_>, kind: Kind) -> Result<(Num, Span), ParseErr
 #[tactic(auto, unfolding(crate::specs::Reading::key))]
 fn key(tokens: &mut Tokens<'_>) -> Result<Option<(RootText, Num)>, ParseError>
     ensures value { Reads (spec.key tokens.old) result tokens.new }
-    ensures onward { IsOnward tokens.old tokens.new }
+    ensures onward { AreNoMore tokens.old tokens.new }
 {
     if !sees(tokens, Kind::RootWord) {
         return Ok(None);
@@ -74,7 +74,7 @@ fn neighbour(alloc: Global, tokens: &mut Tokens<'_>) -> Result<Decl, ParseError>
 // `NAME { , NAME }`
 fn names(alloc: Global, tokens: &mut Tokens<'_>) -> Result<Items<Name>, ParseError>
     ensures value { Reads (list k.Comma spec.name tokens.old) result tokens.new }
-    ensures onward { IsOnward tokens.old tokens.new }
+    ensures onward { AreNoMore tokens.old tokens.new }
 {
     let mut items = Items::new(alloc);
     items.push(name(alloc, tokens)?)?;
@@ -105,7 +105,7 @@ fn group(alloc: Global, tokens: &mut Tokens<'_>) -> Result<Decl, ParseError>
 #[tactic(auto, unfolding(crate::specs::Reading::pattern))]
 fn pattern(tokens: &mut Tokens<'_>) -> Result<PatternText, ParseError>
     ensures value { Reads (spec.pattern tokens.old) result tokens.new }
-    ensures onward { IsOnward tokens.old tokens.new }
+    ensures onward { AreNoMore tokens.old tokens.new }
 {
     let PrefixText { prefix, span } = prefix(tokens)?;
     if !sees(tokens, Kind::Le) {
@@ -123,7 +123,7 @@ fn pattern(tokens: &mut Tokens<'_>) -> Result<PatternText, ParseError>
 // `Pattern { , Pattern }`
 fn patterns(alloc: Global, tokens: &mut Tokens<'_>) -> Result<Items<PatternText>, ParseError>
     ensures value { Reads (list k.Comma spec.pattern tokens.old) result tokens.new }
-    ensures onward { IsOnward tokens.old tokens.new }
+    ensures onward { AreNoMore tokens.old tokens.new }
 {
     let mut items = Items::new(alloc);
     items.push(pattern(tokens)?)?;
@@ -153,7 +153,7 @@ fn define(alloc: Global, tokens: &mut Tokens<'_>) -> Result<Decl, ParseError>
 // `PREFIX { , PREFIX }`
 fn prefixes(alloc: Global, tokens: &mut Tokens<'_>) -> Result<Items<PrefixText>, ParseError>
     ensures value { Reads (list k.Comma spec.prefix tokens.old) result tokens.new }
-    ensures onward { IsOnward tokens.old tokens.new }
+    ensures onward { AreNoMore tokens.old tokens.new }
 {
     let mut items = Items::new(alloc);
     items.push(prefix(tokens)?)?;
@@ -168,7 +168,7 @@ fn prefixes(alloc: Global, tokens: &mut Tokens<'_>) -> Result<Items<PrefixText>,
 #[tactic(auto, unfolding(crate::specs::Reading::places))]
 fn places(alloc: Global, tokens: &mut Tokens<'_>) -> Result<Items<PrefixText>, ParseError>
     ensures value { Reads (spec.places tokens.old) result tokens.new }
-    ensures onward { IsOnward tokens.old tokens.new }
+    ensures onward { AreNoMore tokens.old tokens.new }
 {
     if !sees(tokens, Kind::At) {
         return Ok(Items::new(alloc));
@@ -184,7 +184,7 @@ fn terms_of_promise(
     tokens: &mut Tokens<'_>,
 ) -> Result<(Name, Num, Items<PrefixText>), ParseError>
     ensures value { Reads (spec.terms_of_promise tokens.old) result tokens.new }
-    ensures onward { IsOnward tokens.old tokens.new }
+    ensures onward { AreNoMore tokens.old tokens.new }
 {
     let name = name(alloc, tokens)?;
     expect(tokens, Kind::Grace)?;

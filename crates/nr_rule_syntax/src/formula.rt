@@ -6,7 +6,7 @@ ghost use Rattle.nr_spec_rules.specs.declared.kind.Kind.TheVariants as k;
 ghost use Rattle.nr_spec_rules.specs.Tokens.{goes_on, kind_of};
 ghost use Rattle.nr_spec_rules.specs.Parsing.{following};
 ghost use Rattle.nr_rule_syntax.specs.Reading as spec;
-ghost use Rattle.nr_rule_syntax.specs.Views.{Reads, IsOnward};
+ghost use Rattle.nr_rule_syntax.specs.Views.{Reads, AreNoMore};
 ghost use Rattle.nr_rule_syntax.specs.Nests.{Nests};
 ghost use Rattle.nr_rule_syntax.specs.Nesting.{measured, depth, depth_within, most_within, IsInside};
 
@@ -44,7 +44,7 @@ impl<F: Fn(Global, &mut Tokens<'_>, usize, Level) -> Result<Form, ParseError>> G
         requires { Nests self.now.levels (F.pre self.now.inside) (F.post self.now.inside) }
         ensures value { Reads (spec.inside self.now.levels level tokens.old) result tokens.new }
         ensures nests { IfOk result (IsInside self.now.levels level) }
-        ensures onward { IsOnward tokens.old tokens.new }
+        ensures onward { AreNoMore tokens.old tokens.new }
     {
         (self.inside)(self.alloc, tokens, self.levels, level)
     }
@@ -54,7 +54,7 @@ impl<F: Fn(Global, &mut Tokens<'_>, usize, Level) -> Result<Form, ParseError>> G
         requires { Nests self.now.levels (F.pre self.now.inside) (F.post self.now.inside) }
         ensures value { Reads (spec.inside self.now.levels level tokens.old) result tokens.new }
         ensures nests { IfOk result (IsInside self.now.levels level) }
-        ensures onward { IsOnward tokens.old tokens.new }
+        ensures onward { AreNoMore tokens.old tokens.new }
     {
         Ok(Boxed::new(self.alloc, self.inside(tokens, level)?)?)
     }
@@ -63,7 +63,7 @@ impl<F: Fn(Global, &mut Tokens<'_>, usize, Level) -> Result<Form, ParseError>> G
     fn open(&self, tokens: &mut Tokens<'_>) -> Result<(), ParseError>
         requires { goes_on (kind_of tokens.old) ≡ true }
         ensures value { Reads (spec.opens self.now.levels tokens.old) result tokens.new }
-        ensures onward { IsOnward tokens.old tokens.new }
+        ensures onward { AreNoMore tokens.old tokens.new }
     {
         if self.levels == 0 {
             return Err(refused(tokens));
@@ -78,7 +78,7 @@ impl<F: Fn(Global, &mut Tokens<'_>, usize, Level) -> Result<Form, ParseError>> G
         requires more { goes_on (kind_of tokens.old) ≡ true }
         ensures value { Reads (spec.parenthesized self.now.levels (spec.inside self.now.levels) tokens.old) result tokens.new }
         ensures nests { IfOk result (λ form. depth_within 3 form ≤ self.now.levels) }
-        ensures onward { IsOnward tokens.old tokens.new }
+        ensures onward { AreNoMore tokens.old tokens.new }
     {
         self.open(tokens)?;
         let held = self.inside(tokens, Level::Whole)?;
@@ -93,7 +93,7 @@ impl<F: Fn(Global, &mut Tokens<'_>, usize, Level) -> Result<Form, ParseError>> G
         requires more { goes_on (kind_of tokens.old) ≡ true }
         ensures value { Reads (spec.over_group self.now.levels (spec.inside self.now.levels) tokens.old) result tokens.new }
         ensures nests { IfOk result (λ x. depth x.2 < self.now.levels) }
-        ensures onward { IsOnward tokens.old tokens.new }
+        ensures onward { AreNoMore tokens.old tokens.new }
     {
         self.open(tokens)?;
         let var = name(self.alloc, tokens)?;
@@ -110,7 +110,7 @@ impl<F: Fn(Global, &mut Tokens<'_>, usize, Level) -> Result<Form, ParseError>> G
     fn bound(&self, tokens: &mut Tokens<'_>) -> Result<(Name, (Side, Name)), ParseError>
         requires { goes_on (kind_of tokens.old) ≡ true }
         ensures value { Reads (spec.bound self.now.levels tokens.old) result tokens.new }
-        ensures onward { IsOnward tokens.old tokens.new }
+        ensures onward { AreNoMore tokens.old tokens.new }
     {
         self.open(tokens)?;
         let var = name(self.alloc, tokens)?;
@@ -126,7 +126,7 @@ impl<F: Fn(Global, &mut Tokens<'_>, usize, Level) -> Result<Form, ParseError>> G
         requires { Nests self.now.levels (F.pre self.now.inside) (F.post self.now.inside) }
         ensures value { Reads (spec.branches (spec.inside self.now.levels) tokens.old) result tokens.new }
         ensures nests { IfOk result (λ x. (depth x.0 < self.now.levels) × (depth x.1 < self.now.levels)) }
-        ensures onward { IsOnward tokens.old tokens.new }
+        ensures onward { AreNoMore tokens.old tokens.new }
     {
         let yes = self.held(tokens, Level::Whole)?;
         expect(tokens, Kind::Else)?;
@@ -141,7 +141,7 @@ impl<F: Fn(Global, &mut Tokens<'_>, usize, Level) -> Result<Form, ParseError>> G
         requires more { goes_on (kind_of tokens.old) ≡ true }
         ensures value { Reads (spec.conditional self.now.levels (spec.inside self.now.levels) tokens.old) result tokens.new }
         ensures nests { IfOk result (λ form. depth_within 3 form ≤ self.now.levels) }
-        ensures onward { IsOnward tokens.old tokens.new }
+        ensures onward { AreNoMore tokens.old tokens.new }
     {
         let (var, (side, of)) = self.bound(tokens)?;
         let (yes, no) = self.branches(tokens)?;
@@ -159,7 +159,7 @@ impl<F: Fn(Global, &mut Tokens<'_>, usize, Level) -> Result<Form, ParseError>> G
         requires { Nests self.now.levels (F.pre self.now.inside) (F.post self.now.inside) }
         ensures value { Reads (spec.atom self.now.levels (spec.inside self.now.levels) tokens.old) result tokens.new }
         ensures nests { IfOk result (λ form. depth_within 3 form ≤ self.now.levels) }
-        ensures onward { IsOnward tokens.old tokens.new }
+        ensures onward { AreNoMore tokens.old tokens.new }
     {
         match tokens.kind() {
             Kind::True => {
@@ -198,7 +198,7 @@ impl<F: Fn(Global, &mut Tokens<'_>, usize, Level) -> Result<Form, ParseError>> G
         requires { Nests self.now.levels (F.pre self.now.inside) (F.post self.now.inside) }
         ensures value { Reads (spec.negation self.now.levels (spec.inside self.now.levels) tokens.old) result tokens.new }
         ensures nests { IfOk result (λ form. depth_within 3 form ≤ self.now.levels) }
-        ensures onward { IsOnward tokens.old tokens.new }
+        ensures onward { AreNoMore tokens.old tokens.new }
     {
         if !sees(tokens, Kind::Not) {
             return self.atom(tokens);
@@ -212,8 +212,10 @@ impl<F: Fn(Global, &mut Tokens<'_>, usize, Level) -> Result<Form, ParseError>> G
         requires inside { Nests self.now.levels (F.pre self.now.inside) (F.post self.now.inside) }
         requires fits { depth_within 3 first ≤ self.now.levels }
         ensures nests { IfOk result (λ members. most_within 3 (map measured members) ≤ self.now.levels) }
-        ensures value { Reads (following first k.And (spec.negation self.now.levels (spec.inside self.now.levels)) tokens.old) result tokens.new }
-        ensures onward { IsOnward tokens.old tokens.new }
+        ensures value { Reads
+            (following first k.And (spec.negation self.now.levels (spec.inside self.now.levels)) tokens.old)
+            result tokens.new }
+        ensures onward { AreNoMore tokens.old tokens.new }
     {
         let mut members = Items::new(self.alloc);
         members.push(first)?;
@@ -229,7 +231,7 @@ impl<F: Fn(Global, &mut Tokens<'_>, usize, Level) -> Result<Form, ParseError>> G
         requires { Nests self.now.levels (F.pre self.now.inside) (F.post self.now.inside) }
         ensures value { Reads (spec.conjunction self.now.levels (spec.inside self.now.levels) tokens.old) result tokens.new }
         ensures nests { IfOk result (λ form. depth_within 2 form ≤ self.now.levels) }
-        ensures onward { IsOnward tokens.old tokens.new }
+        ensures onward { AreNoMore tokens.old tokens.new }
     {
         let first = self.negation(tokens)?;
         if !sees(tokens, Kind::And) {
@@ -243,8 +245,10 @@ impl<F: Fn(Global, &mut Tokens<'_>, usize, Level) -> Result<Form, ParseError>> G
         requires inside { Nests self.now.levels (F.pre self.now.inside) (F.post self.now.inside) }
         requires fits { depth_within 2 first ≤ self.now.levels }
         ensures nests { IfOk result (λ members. most_within 2 (map measured members) ≤ self.now.levels) }
-        ensures value { Reads (following first k.Or (spec.conjunction self.now.levels (spec.inside self.now.levels)) tokens.old) result tokens.new }
-        ensures onward { IsOnward tokens.old tokens.new }
+        ensures value { Reads
+            (following first k.Or (spec.conjunction self.now.levels (spec.inside self.now.levels)) tokens.old)
+            result tokens.new }
+        ensures onward { AreNoMore tokens.old tokens.new }
     {
         let mut members = Items::new(self.alloc);
         members.push(first)?;
@@ -260,7 +264,7 @@ impl<F: Fn(Global, &mut Tokens<'_>, usize, Level) -> Result<Form, ParseError>> G
         requires { Nests self.now.levels (F.pre self.now.inside) (F.post self.now.inside) }
         ensures value { Reads (spec.disjunction self.now.levels (spec.inside self.now.levels) tokens.old) result tokens.new }
         ensures nests { IfOk result (λ form. depth_within 1 form ≤ self.now.levels) }
-        ensures onward { IsOnward tokens.old tokens.new }
+        ensures onward { AreNoMore tokens.old tokens.new }
     {
         let first = self.conjunction(tokens)?;
         if !sees(tokens, Kind::Or) {
@@ -274,7 +278,7 @@ impl<F: Fn(Global, &mut Tokens<'_>, usize, Level) -> Result<Form, ParseError>> G
         requires { Nests self.now.levels (F.pre self.now.inside) (F.post self.now.inside) }
         ensures value { Reads (spec.formula self.now.levels (spec.inside self.now.levels) tokens.old) result tokens.new }
         ensures nests { IfOk result (λ form. depth form ≤ self.now.levels) }
-        ensures onward { IsOnward tokens.old tokens.new }
+        ensures onward { AreNoMore tokens.old tokens.new }
     {
         let left = self.disjunction(tokens)?;
         if !sees(tokens, Kind::Implies) {
@@ -295,7 +299,7 @@ fn inside(
 ) -> Result<Form, ParseError>
     ensures value { Reads (spec.inside levels level tokens.old) result tokens.new }
     ensures nests { IfOk result (IsInside levels level) }
-    ensures onward { IsOnward tokens.old tokens.new }
+    ensures onward { AreNoMore tokens.old tokens.new }
 {
     if levels == 0 {
         return Err(refused(tokens));
@@ -315,7 +319,7 @@ fn inside(
 pub fn whole_formula(alloc: Global, tokens: &mut Tokens<'_>) -> Result<Form, ParseError>
     ensures value { Reads (spec.whole_formula tokens.old) result tokens.new }
     ensures nests { IfOk result (λ form. depth form ≤ 64) }
-    ensures onward { IsOnward tokens.old tokens.new }
+    ensures onward { AreNoMore tokens.old tokens.new }
 {
     inside(alloc, tokens, MOST_LEVELS + 1, Level::Whole)
 }

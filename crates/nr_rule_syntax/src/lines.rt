@@ -2,6 +2,8 @@
 
 ghost use Rattle.std.specs.Prelude.{◌≡◌, ◌++◌, map, drop, codes, OnOk, IfOk};
 ghost use Rattle.nr_rule_syntax.specs.Printing as spec;
+ghost use Rattle.std.specs.List.{All};
+ghost use Rattle.nr_rule_syntax.specs.Nesting.{IsNested};
 
 use crate::printing::put_form;
 use crate::put::{put_address, put_key, put_name, put_number, put_pattern};
@@ -11,7 +13,8 @@ use std::alloc::Global;
 
 // The names behind the first.
 fn put_more_names(out: &mut Vec<u8>, names: &[Name]) -> Result<(), Memory>
-    ensures { OnOk result (out.new.items ≡ out.old.items ++ spec.each_behind (codes ", ") (map spec.name_text (drop 1 names.now))) }
+    ensures { OnOk result
+        (out.new.items ≡ out.old.items ++ spec.each_behind (codes ", ") (map spec.name_text (drop 1 names.now))) }
 {
     for at in 1..names.len() {
         put_bytes(out, b", ")?;
@@ -34,7 +37,8 @@ fn put_names(out: &mut Vec<u8>, names: &[Name]) -> Result<(), Memory>
 
 // The patterns behind the first.
 fn put_more_patterns(out: &mut Vec<u8>, patterns: &[PatternText]) -> Result<(), Memory>
-    ensures { OnOk result (out.new.items ≡ out.old.items ++ spec.each_behind (codes ", ") (map spec.pattern_text (drop 1 patterns.now))) }
+    ensures { OnOk result
+        (out.new.items ≡ out.old.items ++ spec.each_behind (codes ", ") (map spec.pattern_text (drop 1 patterns.now))) }
 {
     for at in 1..patterns.len() {
         put_bytes(out, b", ")?;
@@ -44,7 +48,8 @@ fn put_more_patterns(out: &mut Vec<u8>, patterns: &[PatternText]) -> Result<(), 
 }
 
 fn put_patterns(out: &mut Vec<u8>, patterns: &[PatternText]) -> Result<(), Memory>
-    ensures { OnOk result (out.new.items ≡ out.old.items ++ spec.joined (codes ", ") (map spec.pattern_text patterns.now)) }
+    ensures { OnOk result
+        (out.new.items ≡ out.old.items ++ spec.joined (codes ", ") (map spec.pattern_text patterns.now)) }
 {
     match patterns {
         [] => Ok(()),
@@ -63,7 +68,8 @@ fn put_prefix(out: &mut Vec<u8>, place: &PrefixText) -> Result<(), Memory>
 
 // The prefixes behind the first.
 fn put_more_prefixes(out: &mut Vec<u8>, places: &[PrefixText]) -> Result<(), Memory>
-    ensures { OnOk result (out.new.items ≡ out.old.items ++ spec.each_behind (codes ", ") (map spec.prefix_text (drop 1 places.now))) }
+    ensures { OnOk result
+        (out.new.items ≡ out.old.items ++ spec.each_behind (codes ", ") (map spec.prefix_text (drop 1 places.now))) }
 {
     for at in 1..places.len() {
         put_bytes(out, b", ")?;
@@ -148,9 +154,11 @@ fn put_declaration(out: &mut Vec<u8>, declaration: &Decl) -> Result<(), Memory>
     }
 }
 
-/// The canonical text of a file: a declaration a line, with one space between tokens, and parentheses
-/// exactly where the tree needs them.
+/// The canonical text of a file whose formulas nest at most 64 levels, as `parse` gives: a declaration a line,
+/// with one space between tokens, and parentheses exactly where the tree needs them. Each level of nesting takes a
+/// call, so the depth bounds the stack.
 pub fn print(alloc: Global, file: &File) -> Result<Vec<u8>, Memory>
+    requires { All IsNested file.now.decls }
     ensures { IfOk result (λ text. text.items ≡ spec.file_text file.now) }
 {
     let mut out = Vec::new(alloc);

@@ -35,7 +35,9 @@ fn put_within(out: &mut Vec<u8>, form: &Form, least: u8) -> Result<(), Memory>
 // The members of an `and` or `or` behind the first.
 #[cycle(print)]
 fn put_more(out: &mut Vec<u8>, members: &[Form], between: &[u8], least: u8) -> Result<(), Memory>
-    ensures { OnOk result (out.new.items ≡ out.old.items ++ spec.each_behind between.now (map (spec.within least) (map spec.printed (drop 1 members.now)))) }
+    ensures { OnOk result (out.new.items
+        ≡ out.old.items
+        ++ spec.each_behind between.now (map (spec.within least) (map spec.printed (drop 1 members.now)))) }
 {
     for at in 1..members.len() {
         put_bytes(out, between)?;
@@ -47,7 +49,8 @@ fn put_more(out: &mut Vec<u8>, members: &[Form], between: &[u8], least: u8) -> R
 // The members of an `and` or `or`.
 #[cycle(print)]
 fn put_members(out: &mut Vec<u8>, members: &[Form], between: &[u8], least: u8) -> Result<(), Memory>
-    ensures { OnOk result (out.new.items ≡ out.old.items ++ spec.members_text between.now least (map spec.printed members.now)) }
+    ensures { OnOk result
+        (out.new.items ≡ out.old.items ++ spec.members_text between.now least (map spec.printed members.now)) }
 {
     match members {
         [] => Ok(()),

@@ -5,7 +5,7 @@ ghost use Rattle.std.specs.Prelude.{◌≡◌, ◌<◌, length, true, OnOk};
 ghost use Rattle.nr_spec_rules.specs.Tokens.{goes_on, kind_of, place_of};
 ghost use Rattle.nr_spec_rules.specs.Parsing as parsing;
 ghost use Rattle.nr_rule_syntax.specs.Reading as spec;
-ghost use Rattle.nr_rule_syntax.specs.Views.{Reads, IsOnward};
+ghost use Rattle.nr_rule_syntax.specs.Views.{Reads, AreNoMore};
 
 use crate::fault::ParseError;
 use crate::tree::{Name, Num, PrefixText, RootText};
@@ -37,7 +37,7 @@ pub fn sees(tokens: &Tokens<'_>, kind: Kind) -> bool
 pub fn expect(tokens: &mut Tokens<'_>, kind: Kind) -> Result<Span, ParseError>
     requires { goes_on kind ≡ true }
     ensures value { Reads (parsing.expect kind tokens.old) result tokens.new }
-    ensures onward { IsOnward tokens.old tokens.new }
+    ensures onward { AreNoMore tokens.old tokens.new }
     ensures shorter { OnOk result (length tokens.new < length tokens.old) }
 {
     if !sees(tokens, kind) {
@@ -51,7 +51,7 @@ pub fn expect(tokens: &mut Tokens<'_>, kind: Kind) -> Result<Span, ParseError>
 #[tactic(auto, unfolding(nr_spec_rules::specs::Parsing::valued, crate::specs::Reading::name))]
 pub fn name(alloc: Global, tokens: &mut Tokens<'_>) -> Result<Name, ParseError>
     ensures value { Reads (spec.name tokens.old) result tokens.new }
-    ensures onward { IsOnward tokens.old tokens.new }
+    ensures onward { AreNoMore tokens.old tokens.new }
 {
     if !sees(tokens, Kind::Name) {
         return Err(refused(tokens));
@@ -65,7 +65,7 @@ pub fn name(alloc: Global, tokens: &mut Tokens<'_>) -> Result<Name, ParseError>
 #[tactic(auto, unfolding(nr_spec_rules::specs::Parsing::valued, crate::specs::Reading::number))]
 pub fn number(tokens: &mut Tokens<'_>) -> Result<Num, ParseError>
     ensures value { Reads (spec.number tokens.old) result tokens.new }
-    ensures onward { IsOnward tokens.old tokens.new }
+    ensures onward { AreNoMore tokens.old tokens.new }
 {
     if !sees(tokens, Kind::Number) {
         return Err(refused(tokens));
@@ -83,7 +83,7 @@ pub fn number(tokens: &mut Tokens<'_>) -> Result<Num, ParseError>
 #[tactic(auto, unfolding(nr_spec_rules::specs::Parsing::valued, crate::specs::Reading::address))]
 pub fn address(tokens: &mut Tokens<'_>) -> Result<Num, ParseError>
     ensures value { Reads (spec.address tokens.old) result tokens.new }
-    ensures onward { IsOnward tokens.old tokens.new }
+    ensures onward { AreNoMore tokens.old tokens.new }
 {
     if !sees(tokens, Kind::Address) {
         return Err(refused(tokens));
@@ -101,7 +101,7 @@ pub fn address(tokens: &mut Tokens<'_>) -> Result<Num, ParseError>
 #[tactic(auto, unfolding(nr_spec_rules::specs::Parsing::valued, crate::specs::Reading::community))]
 pub fn community(tokens: &mut Tokens<'_>) -> Result<u32, ParseError>
     ensures value { Reads (spec.community tokens.old) result tokens.new }
-    ensures onward { IsOnward tokens.old tokens.new }
+    ensures onward { AreNoMore tokens.old tokens.new }
 {
     if !sees(tokens, Kind::Community) {
         return Err(refused(tokens));
@@ -118,7 +118,7 @@ pub fn community(tokens: &mut Tokens<'_>) -> Result<u32, ParseError>
 #[tactic(auto, unfolding(nr_spec_rules::specs::Parsing::valued, crate::specs::Reading::prefix))]
 pub fn prefix(tokens: &mut Tokens<'_>) -> Result<PrefixText, ParseError>
     ensures value { Reads (spec.prefix tokens.old) result tokens.new }
-    ensures onward { IsOnward tokens.old tokens.new }
+    ensures onward { AreNoMore tokens.old tokens.new }
 {
     if !sees(tokens, Kind::Prefix) {
         return Err(refused(tokens));
@@ -139,7 +139,7 @@ pub fn prefix(tokens: &mut Tokens<'_>) -> Result<PrefixText, ParseError>
 #[tactic(auto, unfolding(nr_spec_rules::specs::Parsing::valued, crate::specs::Reading::root))]
 pub fn root(tokens: &mut Tokens<'_>) -> Result<RootText, ParseError>
     ensures value { Reads (spec.root tokens.old) result tokens.new }
-    ensures onward { IsOnward tokens.old tokens.new }
+    ensures onward { AreNoMore tokens.old tokens.new }
 {
     if !sees(tokens, Kind::Root) {
         return Err(refused(tokens));
@@ -161,7 +161,7 @@ pub fn root(tokens: &mut Tokens<'_>) -> Result<RootText, ParseError>
 #[tactic(auto, unfolding(crate::specs::Reading::argument))]
 pub fn argument(alloc: Global, tokens: &mut Tokens<'_>) -> Result<Name, ParseError>
     ensures value { Reads (spec.argument tokens.old) result tokens.new }
-    ensures onward { IsOnward tokens.old tokens.new }
+    ensures onward { AreNoMore tokens.old tokens.new }
 {
     expect(tokens, Kind::OpenParen)?;
     let of = name(alloc, tokens)?;

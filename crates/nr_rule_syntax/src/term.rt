@@ -3,7 +3,7 @@
 ghost use Rattle.std.specs.Prelude.{◌≡◌, IfOk};
 ghost use Rattle.nr_rule_syntax.specs.Nesting.{measured, flat};
 ghost use Rattle.nr_rule_syntax.specs.Reading as spec;
-ghost use Rattle.nr_rule_syntax.specs.Views.{Reads, IsOnward};
+ghost use Rattle.nr_rule_syntax.specs.Views.{Reads, AreNoMore};
 
 use crate::fault::ParseError;
 use crate::step::{address, argument, community, expect, name, number, refused};
@@ -16,7 +16,7 @@ use std::alloc::Global;
 #[tactic(auto, unfolding(crate::specs::Reading::term))]
 pub fn term(alloc: Global, tokens: &mut Tokens<'_>) -> Result<Term, ParseError>
     ensures value { Reads (spec.term tokens.old) result tokens.new }
-    ensures onward { IsOnward tokens.old tokens.new }
+    ensures onward { AreNoMore tokens.old tokens.new }
 {
     match tokens.kind() {
         Kind::Number => Ok(Term::Number(number(tokens)?)),
@@ -64,7 +64,7 @@ pub fn term(alloc: Global, tokens: &mut Tokens<'_>) -> Result<Term, ParseError>
 #[tactic(auto, unfolding(crate::specs::Reading::comparison))]
 fn comparison(tokens: &mut Tokens<'_>) -> Result<Cmp, ParseError>
     ensures value { Reads (spec.comparison tokens.old) result tokens.new }
-    ensures onward { IsOnward tokens.old tokens.new }
+    ensures onward { AreNoMore tokens.old tokens.new }
 {
     let op = match tokens.kind() {
         Kind::Equal => Cmp::Eq,
@@ -84,7 +84,7 @@ fn comparison(tokens: &mut Tokens<'_>) -> Result<Cmp, ParseError>
 pub fn compared(alloc: Global, tokens: &mut Tokens<'_>) -> Result<Form, ParseError>
     ensures value { Reads (spec.compared tokens.old) result tokens.new }
     ensures nests { IfOk result (λ form. measured form ≡ flat) }
-    ensures onward { IsOnward tokens.old tokens.new }
+    ensures onward { AreNoMore tokens.old tokens.new }
 {
     let left = term(alloc, tokens)?;
     let op = comparison(tokens)?;
@@ -96,7 +96,7 @@ pub fn compared(alloc: Global, tokens: &mut Tokens<'_>) -> Result<Form, ParseErr
 #[tactic(auto, unfolding(crate::specs::Reading::route))]
 pub fn route(alloc: Global, tokens: &mut Tokens<'_>) -> Result<(Side, Name), ParseError>
     ensures value { Reads (spec.route tokens.old) result tokens.new }
-    ensures onward { IsOnward tokens.old tokens.new }
+    ensures onward { AreNoMore tokens.old tokens.new }
 {
     match tokens.kind() {
         Kind::Sent => {
@@ -116,7 +116,7 @@ pub fn route(alloc: Global, tokens: &mut Tokens<'_>) -> Result<(Side, Name), Par
 pub fn about(alloc: Global, tokens: &mut Tokens<'_>, var: Name) -> Result<Form, ParseError>
     ensures value { Reads (spec.about var tokens.old) result tokens.new }
     ensures nests { IfOk result (λ form. measured form ≡ flat) }
-    ensures onward { IsOnward tokens.old tokens.new }
+    ensures onward { AreNoMore tokens.old tokens.new }
 {
     match tokens.kind() {
         Kind::Has => {
@@ -143,7 +143,7 @@ pub fn about(alloc: Global, tokens: &mut Tokens<'_>, var: Name) -> Result<Form, 
 pub fn in_set(alloc: Global, tokens: &mut Tokens<'_>) -> Result<Form, ParseError>
     ensures value { Reads (spec.in_set tokens.old) result tokens.new }
     ensures nests { IfOk result (λ form. measured form ≡ flat) }
-    ensures onward { IsOnward tokens.old tokens.new }
+    ensures onward { AreNoMore tokens.old tokens.new }
 {
     expect(tokens, Kind::PrefixWord)?;
     expect(tokens, Kind::In)?;

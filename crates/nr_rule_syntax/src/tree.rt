@@ -62,8 +62,8 @@ pub enum Decl {
         value: Num,
         span: Span,
     },
-    /// A neighbour, its AS and address, and, where its signing key is known, the key's root and the number under which it
-    /// knows its session with this network.
+    /// A neighbour, its AS and address, and, where its signing key is known, the key's root and the number under
+    /// which it knows its session with this network.
     Neighbour {
         name: Name,
         asn: Num,

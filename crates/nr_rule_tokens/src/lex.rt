@@ -194,7 +194,8 @@ fn first(text: &[u8]) -> u8
 fn word(text: &[u8]) -> Piece
     requires some { 0 < length text.now }
     requires begins { spec.in_word (slice_index text.now 0) ≡ true }
-    ensures value { result ≡ spec.whole (spec.word_kind (spec.run spec.in_word text.now)) (prefix_len spec.in_word text.now) }
+    ensures value { result
+        ≡ spec.whole (spec.word_kind (spec.run spec.in_word text.now)) (prefix_len spec.in_word text.now) }
     ensures within { spec.width_of result ≤ length text.now }
     ensures moves { spec.width_of result ≡ 0 → spec.ends result ≡ true }
 {
@@ -205,7 +206,8 @@ fn word(text: &[u8]) -> Piece
 fn figure(text: &[u8]) -> Piece
     requires some { 0 < length text.now }
     requires begins { spec.in_figure (slice_index text.now 0) ≡ true }
-    ensures value { result ≡ spec.whole (spec.figure_kind (spec.run spec.in_figure text.now)) (prefix_len spec.in_figure text.now) }
+    ensures value { result
+        ≡ spec.whole (spec.figure_kind (spec.run spec.in_figure text.now)) (prefix_len spec.in_figure text.now) }
     ensures within { spec.width_of result ≤ length text.now }
     ensures moves { spec.width_of result ≡ 0 → spec.ends result ≡ true }
 {

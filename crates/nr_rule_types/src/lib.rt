@@ -6,8 +6,14 @@ mod copy;
 mod declaration;
 mod fault;
 mod form;
+mod group;
+mod known;
 mod names;
+mod neighbour;
+mod number;
+mod promise;
 mod scope;
+mod set;
 mod term;
 mod text;
 

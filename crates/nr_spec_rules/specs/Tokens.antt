@@ -55,7 +55,8 @@ word_kind = kind_among (map (λ keyword. (keyword.0.now, keyword.1)) KEYWORDS)
 unfoldable pub figure_kind : List ℕ → Kind
 figure_kind text =
     if is_some (number_of text) then k.Number else (if is_some (address_of text) then k.Address
-    else (if is_some (prefix_of text) then k.Prefix else (if is_some (community_of text) then k.Community else k.Fault)))
+    else (if is_some (prefix_of text) then k.Prefix
+    else (if is_some (community_of text) then k.Community else k.Fault)))
 
 -- ---- pieces
 
@@ -66,7 +67,9 @@ whole kind width = piece.Token kind width
 
 -- `#` and 64 hexadecimal digits
 abbrev pub root : List ℕ → Piece
-root behind = if nat_le 64 (length behind) && list_all is_ascii_hexdigit (take 64 behind) then piece.Token k.Root 65 else piece.Token k.Fault 0
+root behind =
+    if nat_le 64 (length behind)
+    && list_all is_ascii_hexdigit (take 64 behind) then piece.Token k.Root 65 else piece.Token k.Fault 0
 
 -- a symbol of one byte, or of two where `=` is the next
 abbrev pub with_equal : ℕ → Kind → Kind → Piece
@@ -74,14 +77,17 @@ with_equal next alone both = if next == 61 then piece.Token both 2 else piece.To
 
 abbrev pub single : ℕ → Piece
 single b =
-    if b == 59 then piece.Token k.Semicolon 1 else (if b == 44 then piece.Token k.Comma 1 else (if b == 61 then piece.Token k.Equal 1
+    if b == 59 then piece.Token k.Semicolon 1 else (if b == 44 then piece.Token k.Comma 1
+    else (if b == 61 then piece.Token k.Equal 1
     else (if b == 40 then piece.Token k.OpenParen 1 else (if b == 41 then piece.Token k.CloseParen 1
-    else (if b == 123 then piece.Token k.OpenBrace 1 else (if b == 125 then piece.Token k.CloseBrace 1 else piece.Token k.Fault 0))))))
+    else (if b == 123 then piece.Token k.OpenBrace 1 else (if b == 125 then piece.Token k.CloseBrace 1
+    else piece.Token k.Fault 0))))))
 
 -- by its first byte and the next
 unfoldable pub symbol : ℕ → ℕ → Piece
 symbol b next =
-    if b == 60 then with_equal next k.Less k.LessOrEqual else (if b == 62 then with_equal next k.Greater k.GreaterOrEqual
+    if b == 60 then with_equal next k.Less k.LessOrEqual
+    else (if b == 62 then with_equal next k.Greater k.GreaterOrEqual
     else (if b == 33 then (if next == 61 then piece.Token k.Unequal 2 else piece.Token k.Fault 0) else single b))
 
 -- the longest run of such bytes
@@ -119,7 +125,8 @@ with_piece (piece.Token kind width) at text behind = with_token kind width at te
 unfoldable pub tokens_from : ℕ → ℕ → List ℕ → List Token
 tokens_from at inside [] = record { kind = k.End; from = at; text = [] } ∷ []
 tokens_from at (suc inside) (b ∷ text) = tokens_from (at + 1) inside text
-tokens_from at zero (b ∷ text) = with_piece (piece_of (b ∷ text)) at (b ∷ text) (λ inside. tokens_from (at + 1) inside text)
+tokens_from at zero (b ∷ text) =
+    with_piece (piece_of (b ∷ text)) at (b ∷ text) (λ inside. tokens_from (at + 1) inside text)
 
 unfoldable pub tokens_at : ℕ → List ℕ → List Token
 tokens_at at text = tokens_from at 0 text

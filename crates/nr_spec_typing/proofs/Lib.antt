@@ -1,3 +1,4 @@
+pub mod Differ
 pub mod Fitting
 pub mod Guaranteed
 pub mod Meant

@@ -183,7 +183,8 @@ declarations decls = in_turn declaration nothing decls
 
 -- a missing `network` or `commit` is a fault at the end of the text
 abbrev pub whole_by : ℕ → Known → Option ℕ → Option ℕ → Result TypedText ℕ
-whole_by end k (Some network) (Some commit) = Ok (record { network = network; commit = commit; neighbours = k.neighbours; promises = k.promises })
+whole_by end k (Some network) (Some commit) =
+    Ok (record { network = network; commit = commit; neighbours = k.neighbours; promises = k.promises })
 whole_by end k _ _ = Err end
 
 abbrev pub whole : ℕ → Known → Result TypedText ℕ

@@ -87,8 +87,10 @@ typed_step (Form-F.Not held) = λ s. typings.Not <$> held s
 typed_step (Form-F.And members) = λ s. typings.And <$> each members s
 typed_step (Form-F.Or members) = λ s. typings.Or <$> each members s
 typed_step (Form-F.Implies left right) = implies left right
-typed_step (Form-F.All var among form) = λ s. (λ x. typings.All (length s.variables) x.0 x.1) <$> over_group var among form s
-typed_step (Form-F.Some var among form) = λ s. (λ x. typings.Some (length s.variables) x.0 x.1) <$> over_group var among form s
+typed_step (Form-F.All var among form) =
+    λ s. (λ x. typings.All (length s.variables) x.0 x.1) <$> over_group var among form s
+typed_step (Form-F.Some var among form) =
+    λ s. (λ x. typings.Some (length s.variables) x.0 x.1) <$> over_group var among form s
 typed_step (Form-F.If var side of yes_ no_) = conditional var side of yes_ no_
 typed_step (Form-F.Stands side of) = λ s. typings.Stands side <$> who s of
 typed_step (Form-F.Has var community) = λ s. (λ n. typings.Has n community) <$> route s var

@@ -1,10 +1,12 @@
 -- What a well typed text guarantees, so that whether its formulas hold can always be told: each variable is
--- bound around its place and stands for what is asked of it, and each number is in its range.
-use Rattle.std.specs.Prelude.{◌≡◌, ℕ, ◌+◌, ◌<◌, ◌≤◌, max, Bool, true, false, ◌&&◌, ◌||◌, ◌==◌, List, [], ◌∷◌, ◌++◌, length, slice_get, nat_lt, nat_le, Option, Some, None}
+-- bound around its place and stands for what is asked of it, and each number is in its range. And a neighbour can be
+-- found by its AS and address, by its AS and number, and by its name, and a promise by its name, for no two have the
+-- same.
+use Rattle.std.specs.Prelude.{◌≡◌, ℕ, ◌+◌, ◌<◌, ◌≤◌, max, Bool, true, false, ◌&&◌, ◌==◌, List, [], ◌∷◌, ◌++◌, length, slice_get, nat_lt, nat_le, Option, Some, None}
 use Rattle.std.specs.List.{All, list_all}
 use Rattle.nr_chain.specs.declared.digest.Digest.{Digest}
 use Rattle.nr_prefix.specs.declared.set.Pattern.{Pattern}
-use Rattle.nr_rule_syntax.specs.Nesting.{Measured, levels_within, most_within, flat}
+use Rattle.nr_rule_syntax.specs.Nesting.{Measured, negated, conjoined, disjoined, implied, enclosed, flat}
 use Rattle.nr_spec_typing.specs.declared.name.Bound.{Bound}
 use Rattle.nr_spec_typing.specs.declared.name.Bound.TheVariants.{Neighbour, Route}
 use Rattle.nr_spec_typing.specs.declared.text.Promise.{Promise}
@@ -17,6 +19,7 @@ use Rattle.nr_spec_typing.specs.declared.tree.Typing.TheOpen.{Typing-F}
 use Rattle.nr_spec_typing.specs.declared.tree.Typing.TheFolds.{fold-Typing}
 use Rattle.nr_spec_typing.specs.Scopes.{same_bound}
 use Rattle.nr_spec_typing.specs.Declarations.{TypedText, most_seconds}
+use Rattle.nr_spec_typing.specs.Apart.{NoTwo, SameAddress, SameNumber, SameName, SamePromise}
 
 -- ---- what the variables at a place stand for, the outermost first
 
@@ -47,9 +50,9 @@ is_value count around (values.Asn of) = is_who count around of
 abbrev pub are_neighbours : ℕ → List ℕ → Bool
 are_neighbours count members = list_all (λ n. nat_lt n count) members
 
--- a greatest length is from the prefix's own length to 32, or that length itself
+-- a greatest length is from the prefix's own length to 32
 abbrev pub is_pattern : Pattern → Bool
-is_pattern p = nat_le p.prefix.len p.most && (nat_le p.most 32 || p.most == p.prefix.len)
+is_pattern p = nat_le p.prefix.len p.most && nat_le p.most 32
 
 -- a variable's number is how many are bound outside it, and at most 64 are bound at a place
 abbrev pub is_next : List Bound → ℕ → Bool
@@ -66,9 +69,12 @@ fits_step count (Typing-F.Not held) = held
 fits_step count (Typing-F.And members) = λ around. list_all (λ member. member around) members
 fits_step count (Typing-F.Or members) = λ around. list_all (λ member. member around) members
 fits_step count (Typing-F.Implies left right) = λ around. left around && right around
-fits_step count (Typing-F.All var group form) = λ around. is_next around var && are_neighbours count group && form (around ++ Neighbour ∷ [])
-fits_step count (Typing-F.Some var group form) = λ around. is_next around var && are_neighbours count group && form (around ++ Neighbour ∷ [])
-fits_step count (Typing-F.If var side of yes_ no_) = λ around. is_next around var && is_who count around of && yes_ (around ++ Route ∷ []) && no_ around
+fits_step count (Typing-F.All var group form) =
+    λ around. is_next around var && are_neighbours count group && form (around ++ Neighbour ∷ [])
+fits_step count (Typing-F.Some var group form) =
+    λ around. is_next around var && are_neighbours count group && form (around ++ Neighbour ∷ [])
+fits_step count (Typing-F.If var side of yes_ no_) =
+    λ around. is_next around var && is_who count around of && yes_ (around ++ Route ∷ []) && no_ around
 fits_step count (Typing-F.Stands side of) = λ around. is_who count around of
 fits_step count (Typing-F.Has route community) = λ around. is_variable Route around route
 fits_step count (Typing-F.Crosses route term) = λ around. is_variable Route around route && is_value count around term
@@ -79,16 +85,16 @@ fits_step count (Typing-F.Compare left op right) = λ around. is_value count aro
 abbrev pub fits : ℕ → Typing → Fitting
 fits count = fold-Typing Fitting (fits_step count)
 
--- ---- how deep it nests, as in its canonical text. `implies` binds 0, `or` 1, `and` 2, and everything else 3.
+-- ---- how deep it nests, as in its canonical text
 
 abbrev pub measured_step : Typing-F Measured → Measured
-measured_step (Typing-F.Not held) = record { binds = 3; levels = levels_within 3 held + 1 }
-measured_step (Typing-F.And members) = record { binds = 2; levels = most_within 3 members }
-measured_step (Typing-F.Or members) = record { binds = 1; levels = most_within 2 members }
-measured_step (Typing-F.Implies left right) = record { binds = 0; levels = max (levels_within 1 left) (right.levels + 1) }
-measured_step (Typing-F.All var group form) = record { binds = 3; levels = form.levels + 1 }
-measured_step (Typing-F.Some var group form) = record { binds = 3; levels = form.levels + 1 }
-measured_step (Typing-F.If var side of then_ else_) = record { binds = 3; levels = max then_.levels else_.levels + 1 }
+measured_step (Typing-F.Not held) = negated held
+measured_step (Typing-F.And members) = conjoined members
+measured_step (Typing-F.Or members) = disjoined members
+measured_step (Typing-F.Implies left right) = implied left right
+measured_step (Typing-F.All var group form) = enclosed form.levels
+measured_step (Typing-F.Some var group form) = enclosed form.levels
+measured_step (Typing-F.If var side of then_ else_) = enclosed (max then_.levels else_.levels)
 measured_step _ = flat
 
 abbrev pub measured : Typing → Measured
@@ -114,3 +120,7 @@ pub record IsTyped (t : TypedText) : Type 0 where
   pub keys : All (λ n. IsKeyNumber n.key) t.neighbours
   pub promises : length t.promises ≤ 256
   pub formulas : All (IsPromise (length t.neighbours)) t.promises
+  pub addresses : NoTwo SameAddress t.neighbours
+  pub numbers : NoTwo SameNumber t.neighbours
+  pub names : NoTwo SameName t.neighbours
+  pub promise_names : NoTwo SamePromise t.promises

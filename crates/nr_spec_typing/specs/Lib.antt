@@ -1,3 +1,4 @@
+pub mod Apart
 pub mod Declarations
 pub mod Forms
 pub mod Guarantees

@@ -1,9 +1,9 @@
 -- When the formula of a promise holds.
-use Rattle.std.specs.Prelude.{ℕ, Bool, true, false, ◌||◌, ◌==◌, not, List, [], ◌∷◌, ◌++◌, map, slice_get, nat_lt, nat_le, Option, Some, None, is_some}
+use Rattle.std.specs.Prelude.{◌≡◌, ℕ, Bool, true, false, ◌||◌, ◌==◌, not, List, [], ◌∷◌, ◌++◌, map, slice_get, nat_lt, nat_le, Option, Some, None, is_some, Ok}
 use Rattle.std.specs.List.{list_any, list_all}
-use Rattle.nr_spec_bgp.specs.Prefixes.{Cidr, is_in}
+use Rattle.nr_spec_bgp.specs.Prefixes.{Cidr, IsCidr, is_in}
 use Rattle.nr_spec_bgp.specs.Paths.{path_len, first_as, last_as, crosses}
-use Rattle.nr_spec_bgp.specs.Attributes.{AttributeBlock, origin_of, next_hop_of, med_of, pref_of, path_of, has_community}
+use Rattle.nr_spec_bgp.specs.Attributes.{AttributeBlock, attributes_in, origin_of, next_hop_of, med_of, pref_of, path_of, has_community}
 use Rattle.nr_prefix.specs.Views.{pattern_of}
 use Rattle.nr_rule_syntax.specs.declared.tree.Side.{Side}
 use Rattle.nr_rule_syntax.specs.declared.tree.Side.TheVariants.{Sent, Received}
@@ -24,6 +24,17 @@ pub record Scene : Type 0 where
   pub prefix : Cidr
   pub received : ℕ → Option AttributeBlock
   pub sent : ℕ → Option AttributeBlock
+
+-- a route is what its bytes read as, so what is asked of its attributes is asked of its bytes
+abbrev pub IsRead : Option AttributeBlock → Type 0
+IsRead None = Unit {0}
+IsRead (Some r) = attributes_in r.as4 r.block ≡ Ok r.list
+
+-- a scene of routes that stand in messages: its prefix is one, and each route is what its bytes read as
+pub record IsScene (scene : Scene) : Type 0 where
+  pub prefix : IsCidr scene.prefix
+  pub received : (n : ℕ) → IsRead (scene.received n)
+  pub sent : (n : ℕ) → IsRead (scene.sent n)
 
 abbrev pub route_in : Scene → Side → ℕ → Option AttributeBlock
 route_in scene Sent n = scene.sent n
@@ -108,13 +119,16 @@ holds_step neighbours scene (Typing-F.Or members) = λ things. list_any (λ memb
 holds_step neighbours scene (Typing-F.Implies left right) = λ things. not (left things) || right things
 holds_step neighbours scene (Typing-F.All var group form) = λ things. list_all (of_neighbour form things) group
 holds_step neighbours scene (Typing-F.Some var group form) = λ things. list_any (of_neighbour form things) group
-holds_step neighbours scene (Typing-F.If var side of yes_ no_) = λ things. with_route (route_in scene side (who_of things of)) yes_ no_ things
+holds_step neighbours scene (Typing-F.If var side of yes_ no_) =
+    λ things. with_route (route_in scene side (who_of things of)) yes_ no_ things
 holds_step neighbours scene (Typing-F.Stands side of) = λ things. is_some (route_in scene side (who_of things of))
 holds_step neighbours scene (Typing-F.Has r community) = λ things. has_community community (route_at things r)
-holds_step neighbours scene (Typing-F.Crosses r term) = λ things. crosses (number neighbours scene things term) (path_of (route_at things r))
+holds_step neighbours scene (Typing-F.Crosses r term) =
+    λ things. crosses (number neighbours scene things term) (path_of (route_at things r))
 holds_step neighbours scene (Typing-F.Is left right) = λ things. who_of things left == who_of things right
 holds_step neighbours scene (Typing-F.PrefixIn patterns) = λ things. is_in (map pattern_of patterns) scene.prefix
-holds_step neighbours scene (Typing-F.Compare left op right) = λ things. compares (number neighbours scene things left) op (number neighbours scene things right)
+holds_step neighbours scene (Typing-F.Compare left op right) =
+    λ things. compares (number neighbours scene things left) op (number neighbours scene things right)
 
 abbrev pub holds_where : List Neighbour → Scene → Typing → Holding
 holds_where neighbours scene = fold-Typing Holding (holds_step neighbours scene)

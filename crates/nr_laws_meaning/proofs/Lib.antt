@@ -1,0 +1,5 @@
+mod Asked
+mod ByBytes
+mod Meant
+mod SamplesJudged
+mod Settled

@@ -1,0 +1,9 @@
+pub mod Demands
+pub mod Fine
+pub mod Moved
+pub mod Numbered
+pub mod Resolved
+pub mod Says
+pub mod Trees
+pub mod Uses
+pub mod Views

@@ -1,6 +1,0 @@
-use Rattle.nr_spec_typing.specs.Declarations.{pattern}
-use Rattle.nr_rule_types.proofs.Walks.{IsSoFar}
-use Rattle.nr_rule_types.proofs.declaration.patterns.Given as goal
-
-abbrev pub invariant-loop-text : goal.invariant-loop-text
-invariant-loop-text l = IsSoFar pattern l.texts l.text-index l.patterns.items

@@ -1,0 +1,53 @@
+//! Declarations of groups.
+
+ghost use Rattle.nr_spec_typing.specs.Declarations as spec;
+ghost use Rattle.nr_rule_types.specs.Views.{Answers};
+
+use crate::fault::{TypeError, at};
+use crate::known::Known;
+use crate::names::Names;
+use nr_rule_syntax::Name;
+use nr_spec_typing::{Named, Shared};
+use std::alloc::Global;
+
+/// The most groups of a text.
+const MOST_GROUPS: usize = 64;
+
+// A neighbour that a group didn't name before.
+fn member(names: &Names<'_>, before: &[u16], name: &Name) -> Result<u16, TypeError>
+    ensures { Answers (spec.member names.now before.now name.now) result }
+{
+    match names.find(name.word.bytes()) {
+        Some(Named::Neighbour(n)) if !before.contains(n) => Ok(*n),
+        _ => Err(at(name.span)),
+    }
+}
+
+// The members of a group.
+fn members(alloc: Global, names: &Names<'_>, texts: &[Name]) -> Result<Shared<u16>, TypeError>
+    ensures { Answers (spec.members names.now texts.now) result }
+{
+    let mut numbers = Vec::new(alloc);
+    for text in texts {
+        let number = member(names, numbers.as_slice(), text)?;
+        numbers.push(number)?;
+    }
+    Ok(Shared::from_vec(numbers)?)
+}
+
+/// `group NAME = NAME { , NAME } ;`
+#[tactic(auto, unfolding(nr_spec_typing::specs::Declarations::group))]
+pub fn group<'a>(
+    alloc: Global,
+    known: Known<'a>,
+    name: &'a Name,
+    texts: &[Name],
+) -> Result<Known<'a>, TypeError>
+    ensures { Answers (spec.group known.entry name.now texts.now) result }
+{
+    if !known.names.is_new(name) || known.names.groups() >= MOST_GROUPS {
+        return Err(at(name.span));
+    }
+    let numbers = members(alloc, &known.names, texts)?;
+    Ok(known.declare(alloc, name, Named::Group(numbers))?)
+}
