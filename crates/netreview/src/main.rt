@@ -27,42 +27,44 @@ mod request;
 mod roots;
 mod run;
 mod signatures;
-mod system;
 #[cfg(test)]
 mod tests;
 mod writing;
 
+use nr_system::{Access, NoWords, Output, SystemFiles, words};
 use run::run;
-use std::io::ErrorKind;
+use std::io;
 use std::process::ExitCode;
-use std::{env, io};
-use system::{Output, SystemFiles};
 
-// The statuses where memory ran out before there were words, and where the system gives none.
+// The statuses where there are no words: the output failed, memory ran out, the system gives none.
+const WRITE_FAULT: u8 = 5;
+
 const MEMORY: u8 = 6;
 
 const NO_WORDS: u8 = 8;
 
-fn words_of(rt: &HostRuntime) -> io::Result<Vec<String>> {
-    let words = env::args(rt)?.skip(1).collect(rt.alloc())?;
-    Ok(words)
+// What a command writes is its owner's alone where it holds a secret: a key.
+fn access_of(words: &[String]) -> Access {
+    match words.first() {
+        Some(command) if command.as_str() == "keygen" => Access::Owner,
+        _ => Access::Umask,
+    }
 }
 
 fn run_words(rt: &HostRuntime, words: &[String]) -> u8 {
-    let mut files = SystemFiles::new(rt, rt.alloc());
+    let mut files = SystemFiles::new(rt, rt.alloc(), access_of(words));
     let mut out = Output::new(io::writer(rt));
     run(rt.alloc(), words, &mut files, &mut out)
 }
 
 fn main(rt: HostRuntime) -> ExitCode {
-    match words_of(&rt) {
-        Ok(words) => ExitCode::from(run_words(&rt, words.as_slice())),
-        // A word that isn't UTF-8 is no word of a command, as if there were none.
-        Err(e) if e.kind() == ErrorKind::InvalidData => ExitCode::from(run_words(&rt, &[])),
-        Err(e) if e.kind() == ErrorKind::OutOfMemory => {
-            let _ = println!(rt; "memory");
-            ExitCode::from(MEMORY)
-        }
-        Err(_) => ExitCode::from(NO_WORDS),
-    }
+    let status = match words(&rt) {
+        Ok(words) => run_words(&rt, words.as_slice()),
+        Err(NoWords::Memory) => match println!(rt; "memory") {
+            Ok(()) => MEMORY,
+            Err(_) => WRITE_FAULT,
+        },
+        Err(NoWords::System) => NO_WORDS,
+    };
+    ExitCode::from(status)
 }

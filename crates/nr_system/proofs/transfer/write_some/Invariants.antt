@@ -1,0 +1,6 @@
+-- What was asked in vain gives the writer nothing.
+use Rattle.std.specs.Io.KnownBytes.{Keeps}
+use Rattle.nr_system.proofs.transfer.write_some.Given as goal
+
+abbrev pub invariant-loop : goal.invariant-loop
+invariant-loop g l = Keeps (g.T.Write.contents l.initial.writer) (g.T.Write.contents l.writer)
