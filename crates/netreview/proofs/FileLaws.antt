@@ -112,7 +112,7 @@ gave plan old new (Err (Refused refusal)) e runs (inl is) zero = absurd (not_thr
 gave plan old new (Err (Refused refusal)) e runs (inr is) zero = absurd (not_zero disk.Memory (sym zero ∙ ap (λ (e : Ending). e.status) is))
 gave plan old new (Err (Faulted fault)) e runs is zero = absurd (not_zero fault (sym zero ∙ ap (λ (e : Ending). e.status) is))
 
--- what is told behind steps that only read
+-- what is told after steps that only read
 told_after : (old new : Option disk.Told) (t : disk.Told) → old ≡ Some t → Unchanged old new → (u : disk.Told) × (new ≡ Some u) × (u.holds ≡ t.holds)
 told_after None new t is u = absurd cc
 told_after (Some s) None t is u = absurd (let h = u.holds in cc)

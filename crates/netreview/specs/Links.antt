@@ -10,7 +10,7 @@ link_of link = record { seq = link.seq; time = link.time; value = link.value.0 }
 abbrev pub links_in : declared_links.Links → List chain.Link
 links_in links = map link_of links.links.items
 
--- numbered one behind another from this number on
+-- numbered one after another from this number on
 abbrev pub IsNumbered : ℕ → List chain.Link → Type 0
 IsNumbered n [] = Unit {0}
 IsNumbered n (link ∷ links) = (link.seq ≡ n) × IsNumbered (n + 1) links

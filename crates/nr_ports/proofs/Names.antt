@@ -13,7 +13,7 @@ use Rattle.nr_ports.specs.Ports.{NamedBytes, held_in, pending_in, settled, with_
 abbrev pub named : List ℕ → NamedBytes → Bool
 named name file = bytes_eq file.name name
 
--- a file of this name, behind none
+-- a file of this name, after none
 record IsFirst (name : List ℕ) (files : List NamedBytes) (i : ℕ) (d : NamedBytes) : Type 0 where
   pub there : i < length files
   pub has : named name (get_or files i d) ≡ true

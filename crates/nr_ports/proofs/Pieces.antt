@@ -68,7 +68,7 @@ took_on text at n old mid is =
     ap (λ (l : List ℕ). taking (take n l) mid) (take_rest text at) ∙ ap (taking (take n (drop at text))) is ∙ taking_more old (take at text) (take n (drop at text))
     ∙ ap (λ (l : List ℕ). taking l old) (sym (take-add at n text))
 
--- what has been read so far is one piece more of the file; post is what stands behind the piece
+-- what has been read so far is one piece more of the file; post is what stands after the piece
 pub read_on : (file buffer old into post : List ℕ) (at n : ℕ) → at ≤ length buffer → take at buffer ≡ take at file → n ≡ min (length old) (length file - at) → into ≡ filled file at n old → take (at + n) (take at buffer ++ (into ++ post)) ≡ take (at + n) file
 read_on file buffer old into post at n within so_far count bytes =
     let long : length (take at buffer) ≡ at = length-take-le at buffer within in
@@ -93,7 +93,7 @@ read_end file buffer old into post at n room less long none within so_far count 
     let end : 0 ≡ min (room - at) (length file - at) = omega arith in
     ap (λ (k : ℕ). take k (take at buffer ++ (into ++ post))) (sym same) ∙ read_on file buffer old into post at n within so_far count bytes ∙ ap (λ (k : ℕ). take k file) same ∙ sym (read_out file at room less end)
 
--- A write in two parts: over bytes stand over old ones, and the rest is put behind them.
+-- A write in two parts: over bytes stand over old ones, and the rest is put after them.
 over : (bytes from : List ℕ) (at n : ℕ) → List ℕ
 over bytes from at n = take at (bytes ++ drop n from) ++ (take n from ++ drop (at + n) (bytes ++ drop n from))
 

@@ -1,4 +1,4 @@
--- What the files in memory tell behind a call that writes.
+-- What the files in memory tell after a call that writes.
 use Rattle.std.proofs.Common.{◌≡◌, ◌≢◌, ℕ, false, List, Option, Some, None, Ok, true, refl, sym, ap, subst, ◌∙◌}
 use Rattle.nr_spec_plans.specs.Disk.{Told, bytes_of, written, cut_to, ChangesOnly, Writes, Cuts, Syncs, IsSynced, FailsListed, is_listed}
 use Rattle.nr_ports.specs.Ports.{MemoryFiles, NamedBytes, Numbering, counted, disk_of, told_of, fails_next, held_in, pending_in, settled, with_file, with_held}

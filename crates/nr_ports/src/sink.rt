@@ -5,7 +5,7 @@ ghost use Rattle.nr_ports.specs.Views.{by_writing};
 
 use crate::fault::WriteFault;
 
-/// What takes bytes, one piece behind another.
+/// What takes bytes, one piece after another.
 pub trait Sink {
     /// All that it stands for.
     ghost tape: { Self → Tape };

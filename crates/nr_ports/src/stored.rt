@@ -1,4 +1,4 @@
-//! Files as they are stored in memory, one behind another.
+//! Files as they are stored in memory, one after another.
 
 ghost use Rattle.std.specs.Prelude.{◌≡◌, ◌≤◌, ◌+◌, ◌-◌, min, Some, option_map, length, take, OnOk, OnErr, true, false};
 ghost use Rattle.std.specs.List.{position};
@@ -82,7 +82,7 @@ impl File {
     }
 }
 
-// What stands from a place on is written over, and what is left is put behind.
+// What stands from a place on is written over, and what is left is put after that.
 fn overwrite(bytes: &mut Vec<u8>, at: usize, from: &[u8]) -> Result<(), Memory>
     requires { at ≤ length bytes.old.items }
     ensures ok { OnOk result (bytes.new.items ≡ written at from.now bytes.old.items) }

@@ -1,5 +1,5 @@
-//! Rows of library calls: a table for each layer, with what each call has to answer. It has nothing but
-//! tests. Expected values come from the formats and the standards, or from another program.
+//! Rows of library calls on bytes, digests, keys, answers and words: tables with what each call has to answer. It has
+//! nothing but tests. Expected values come from the formats and the standards, or from another program.
 #![tactic(auto)]
 
 #[cfg(test)]
@@ -7,16 +7,10 @@ mod answers;
 #[cfg(test)]
 mod bytes;
 #[cfg(test)]
-mod chain;
+mod digests;
 #[cfg(test)]
 mod keys;
 #[cfg(test)]
-mod ports;
-#[cfg(test)]
-mod promises;
-#[cfg(test)]
-mod routes;
-#[cfg(test)]
-mod typing;
+mod signatures;
 #[cfg(test)]
 mod words;

@@ -134,7 +134,7 @@ gives_outcome (Act action next) held old new result (kind, each) told (mid, Ok a
     let now : option_map (λ t. t.holds) mid.told ≡ Some held = (step_unchanged action old mid (Ok answer) kind acts).holds ∙ told in
     subst (λ (a : Answer action). Gives (outcome held (next a)) result) e (gives_outcome (next answer) held mid new result (each answer) now goes)
 
--- ---- a plan behind another, taken apart
+-- ---- one plan after another, taken apart
 
 pub taken_apart : {E A B : Type 0} (p : Plan E A) (f : A → Plan E B) (old new : Disk) (result : Result B (Halt E)) → Runs (followed_by p f) old new result
     → ((mid : Disk) × (value : A) × Runs p old mid (Ok value) × Runs (f value) mid new result) ⊎ ((halt : Halt E) × Runs p old new (Err halt) × (result ≡ Err halt))
@@ -256,7 +256,7 @@ ends_so P (Room next) old new value ends (inr runs) = ends_so P next old new val
 ends_so P (Act action next) old new value ends (mid, Ok answer, acts, goes) = ends_so P (next answer) mid new value (ends answer) goes
 ends_so P (Act action next) old new value ends (mid, Err fault, acts, (same, is)) = absurd cc
 
--- what stands behind decides
+-- the plan that comes after decides
 pub ends_followed : {E A B : Type 0} (P : B → Type 0) (p : Plan E A) (f : A → Plan E B) → ((value : A) → Ends P (f value)) → Ends P (followed_by p f)
 unfolding followed_by
 ends_followed P (Done value) f rest = rest value

@@ -1,4 +1,4 @@
--- Plans one behind another.
+-- Plans one after another.
 use Rattle.std.proofs.Common.{◌≡◌, ℕ, List, Result, Ok, Err, refl, sym, ap, subst, ◌∙◌}
 use Rattle.std.proofs.Common.{inl, inr}
 use Rattle.nr_spec_plans.specs.Plans.{Room, want, refusing, halting}

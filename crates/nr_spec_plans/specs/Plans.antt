@@ -23,7 +23,7 @@ Answer (Cut name len) = Unit {0}
 Answer (Write name at bytes) = Unit {0}
 Answer (Sync name) = Unit {0}
 
--- The bytes of a file up to a size; or want of memory, before anything is read; or a fault behind some bytes.
+-- The bytes of a file up to a size; or want of memory, before anything is read; or a fault after some bytes.
 abbrev pub Reads : (name : List ℕ) (size : ℕ) → Disk → Disk → Result (List ℕ) Fault → Type 0
 Reads name size old new (Ok bytes) =
     (length bytes ≤ size) × ((t : Told) → old.told ≡ Some t → bytes ≡ take size (bytes_of (t.holds name))) × ((calls : ℕ) × (new ≡ read (length bytes) (ticked calls old)))
@@ -57,7 +57,7 @@ pub data Halt (E : Type 0) : Type 0 where
   Refused : (refusal : E) → Halt E
   Faulted : (fault : Fault) → Halt E
 
--- one plan behind another
+-- one plan after another
 unfoldable pub followed_by : {E A B : Type 0} → Plan E A → (A → Plan E B) → Plan E B
 followed_by (Done value) f = f value
 followed_by (Refuse refusal) f = Refuse refusal
