@@ -1,0 +1,4 @@
+pub mod Wrong
+pub mod Claims
+pub mod Outcome
+pub mod Lines
