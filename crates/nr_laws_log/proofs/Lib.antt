@@ -1,8 +1,8 @@
 mod Bytes
-mod Fields
+pub mod Fields
 mod SignatureLaws
 pub mod AuthenticatorLaws
-mod EntryLaws
+pub mod EntryLaws
 mod RowLaws
 mod OpeningLaws
 mod AnswerLaws
