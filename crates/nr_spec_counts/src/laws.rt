@@ -22,9 +22,10 @@ pub fn the_body_of_no_rows_has_6463_bytes()
     ensures { (t : Tally) → IfSome t.in_force (λ f. length f.digest ≡ digest_size) → length (checkpoint_body t []) ≡ 6463 }
 {}
 
-/// A neighbour is overdue exactly where it is declared and its oldest message waits for longer than the commit delay.
+/// A neighbour is overdue exactly where a promise is in force that declares it, and its oldest message waits for longer
+/// than the commit delay of that promise.
 #[tactic(auto, using(crate::proofs::Waits::overdue_is))]
 pub fn overdue_neighbours()
-    ensures { (t : Tally) (time : ℕ) (force : Numbers) (n since : ℕ) → t.oldest n ≡ Some since
-        → IsTrue (is_overdue t time (Some force) n) ↔ ((n < force.count) × (since + force.delay * 1000000 < time)) }
+    ensures { (t : Tally) (time n : ℕ) → IsTrue (is_overdue t time t.in_force n) ↔ ((force : Numbers) × (since : ℕ)
+        × (t.in_force ≡ Some force) × (n < force.count) × (t.oldest n ≡ Some since) × (since + force.delay * 1000000 < time)) }
 {}

@@ -1,11 +1,12 @@
 //! What the definitions say in the words of a reader.
 
-ghost use Rattle.std.specs.Prelude.{◌≡◌, ◌++◌, ◌∷◌, [], List, Option, Some, None};
+ghost use Rattle.std.specs.Prelude.{◌≡◌, ◌++◌, ◌∷◌, ◌↔◌, [], ℕ, List, Option, Some, None, IsTrue};
 ghost use Rattle.std.specs.Option.{unwrap_or};
 ghost use Rattle.std.specs.List.Sorted.{IsStrictlySortedBy};
 ghost use Rattle.nr_spec_bgp.specs.Prefixes.{Cidr};
 ghost use Rattle.nr_spec_bgp.specs.Attributes.{AttributeBlock};
 ghost use Rattle.nr_spec_log.specs.Chain.{LogEntry};
+ghost use Rattle.nr_spec_routes.specs.declared.direction.Direction.{Direction};
 ghost use Rattle.nr_spec_routes.specs.Keys.{Key, Row, AreAscending, cidr_cmp, is_named, each_once, standing, stands_in};
 ghost use Rattle.nr_spec_routes.specs.Effects.{effect_of};
 ghost use Rattle.nr_spec_routes.specs.Routes.{AreRowsAfter, route_after, word_of};
@@ -54,4 +55,12 @@ pub fn touched_prefixes_are_the_named_ones()
 pub fn standing_prefixes_are_those_that_stand()
     ensures named { (rows : List Row) (p : Cidr) → is_named (standing rows) p ≡ stands_in rows p }
     ensures order { (rows : List Row) → IsStrictlySortedBy cidr_cmp (standing rows) }
+{}
+
+/// A prefix stands exactly where some direction and neighbour has a route for it.
+#[tactic(auto, using(crate::proofs::Stands::stands_is))]
+pub fn a_prefix_stands_where_it_has_a_route()
+    ensures { (base : List Row) (entries : List LogEntry) (p : Cidr) → IsTrue (stands_in (rows_after base entries) p)
+        ↔ ((direction : Direction) × (neighbour : ℕ) × (route : AttributeBlock)
+        × (route_after base entries (record { prefix = p; direction = direction; neighbour = neighbour }) ≡ Some route)) }
 {}
