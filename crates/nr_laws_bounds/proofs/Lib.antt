@@ -1,0 +1,3 @@
+pub mod ContentFits
+pub mod RowsFit
+pub mod TallyFits
