@@ -5,8 +5,8 @@ use Rattle.std.proofs.lemmas.List.Sums.{sum_by-append}
 use Rattle.byteorder.specs.Endian.{big_bytes, big_number}
 use Rattle.byteorder.specs.Numbers.{big_number-reads_back}
 use Rattle.nr_spec_bgp.specs.Paths.{Segment, segment_len, path_len, first_number, last_number, last_of, last_as}
-use Rattle.nr_spec_bgp.specs.Attributes.{first_of, number_of}
-use Rattle.nr_laws_meaning.specs.Questions.{IsNumberOf, Numbers, sequence, Ends, Counts}
+use Rattle.nr_spec_bgp.specs.Attributes.{first_of, number_of, path_in, communities_in}
+use Rattle.nr_laws_meaning.specs.Questions.{IsNumberOf, Numbers, sequence, Ends, Counts, Absent}
 
 reads_back : (size n : ℕ) → n < 256 ^ size → big_number size (big_bytes size n) ≡ n
 reads_back size n h = ap (λ l. big_number size l) (sym (append-nil (big_bytes size n))) ∙ big_number-reads_back size n [] h
@@ -56,3 +56,6 @@ counts = record {
   other = λ s path g h. path_more s path 0 (other_len s g h) ∙ omega arith;
   none = refl;
 }
+
+pub absent : Absent
+absent = record { path = λ b e. ap (path_in b.as4) e; communities = λ b e. ap communities_in e }

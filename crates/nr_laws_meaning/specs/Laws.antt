@@ -52,20 +52,39 @@ pub record Routes (at : Place) (of : Who) (n : ℕ) : Type 0 where
 -- `r has c`: c stands among the communities. `r crosses T`: T stands in some segment of the path.
 pub record OfRoute (at : Place) (v : ℕ) (r : AttributeBlock) : Type 0 where
   pub has : (c : ℕ) → Means at (t.Has v c) (Any (λ d. d ≡ c) (communities_of r))
-  pub crosses : (term : Value) (k : ℕ) → Counts at term k → Means at (t.Crosses v term) (Any (λ s. Any (λ n. n ≡ k) s.numbers) (path_of r))
+  pub crosses : (term : Value) (k : ℕ) → Counts at term k
+      → Means at (t.Crosses v term) (Any (λ s. Any (λ n. n ≡ k) s.numbers) (path_of r))
 
 -- `if r = sent(n) then r has c else false end` holds exactly where there is such a route and c stands among its
 -- communities, whatever is bound around it; and so on for what else is asked of a route
 pub record Asked (at : Place) (side : Side) (of : Who) (found : Option AttributeBlock) : Type 0 where
-  pub has : (c : ℕ) → Means at (t.If (next at) side of (t.Has (next at) c) t.False) ((r : AttributeBlock) × (found ≡ Some r) × Any (λ d. d ≡ c) (communities_of r))
-  pub crosses : (k : ℕ) → Means at (t.If (next at) side of (t.Crosses (next at) (values.Number k)) t.False) ((r : AttributeBlock) × (found ≡ Some r) × Any (λ s. Any (λ n. n ≡ k) s.numbers) (path_of r))
-  pub length_ : (k : ℕ) → Means at (t.If (next at) side of (t.Compare (values.Length (next at)) cmps.Eq (values.Number k)) t.False) ((r : AttributeBlock) × (found ≡ Some r) × (path_len (path_of r) ≡ k))
-  pub med : (k : ℕ) → Means at (t.If (next at) side of (t.Compare (values.Med (next at)) cmps.Eq (values.Number k)) t.False) ((r : AttributeBlock) × (found ≡ Some r) × (med_of r ≡ k))
-  pub pref : (k : ℕ) → Means at (t.If (next at) side of (t.Compare (values.Pref (next at)) cmps.Eq (values.Number k)) t.False) ((r : AttributeBlock) × (found ≡ Some r) × (pref_of r ≡ k))
-  pub origin : (k : ℕ) → Means at (t.If (next at) side of (t.Compare (values.Origin (next at)) cmps.Eq (values.Number k)) t.False) ((r : AttributeBlock) × (found ≡ Some r) × (origin_of r ≡ k))
-  pub first : (k : ℕ) → Means at (t.If (next at) side of (t.Compare (values.First (next at)) cmps.Eq (values.Number k)) t.False) ((r : AttributeBlock) × (found ≡ Some r) × (first_as (path_of r) ≡ k))
-  pub last : (k : ℕ) → Means at (t.If (next at) side of (t.Compare (values.Last (next at)) cmps.Eq (values.Number k)) t.False) ((r : AttributeBlock) × (found ≡ Some r) × (last_as (path_of r) ≡ k))
-  pub hop : (k : ℕ) → Means at (t.If (next at) side of (t.Compare (values.Hop (next at)) cmps.Eq (values.Number k)) t.False) ((r : AttributeBlock) × (found ≡ Some r) × (next_hop_of r ≡ k))
+  pub has : (c : ℕ)
+      → Means at (t.If (next at) side of (t.Has (next at) c) t.False)
+      ((r : AttributeBlock) × (found ≡ Some r) × Any (λ d. d ≡ c) (communities_of r))
+  pub crosses : (k : ℕ)
+      → Means at (t.If (next at) side of (t.Crosses (next at) (values.Number k)) t.False)
+      ((r : AttributeBlock) × (found ≡ Some r) × Any (λ s. Any (λ n. n ≡ k) s.numbers) (path_of r))
+  pub length_ : (k : ℕ)
+      → Means at (t.If (next at) side of (t.Compare (values.Length (next at)) cmps.Eq (values.Number k)) t.False)
+      ((r : AttributeBlock) × (found ≡ Some r) × (path_len (path_of r) ≡ k))
+  pub med : (k : ℕ)
+      → Means at (t.If (next at) side of (t.Compare (values.Med (next at)) cmps.Eq (values.Number k)) t.False)
+      ((r : AttributeBlock) × (found ≡ Some r) × (med_of r ≡ k))
+  pub pref : (k : ℕ)
+      → Means at (t.If (next at) side of (t.Compare (values.Pref (next at)) cmps.Eq (values.Number k)) t.False)
+      ((r : AttributeBlock) × (found ≡ Some r) × (pref_of r ≡ k))
+  pub origin : (k : ℕ)
+      → Means at (t.If (next at) side of (t.Compare (values.Origin (next at)) cmps.Eq (values.Number k)) t.False)
+      ((r : AttributeBlock) × (found ≡ Some r) × (origin_of r ≡ k))
+  pub first : (k : ℕ)
+      → Means at (t.If (next at) side of (t.Compare (values.First (next at)) cmps.Eq (values.Number k)) t.False)
+      ((r : AttributeBlock) × (found ≡ Some r) × (first_as (path_of r) ≡ k))
+  pub last : (k : ℕ)
+      → Means at (t.If (next at) side of (t.Compare (values.Last (next at)) cmps.Eq (values.Number k)) t.False)
+      ((r : AttributeBlock) × (found ≡ Some r) × (last_as (path_of r) ≡ k))
+  pub hop : (k : ℕ)
+      → Means at (t.If (next at) side of (t.Compare (values.Hop (next at)) cmps.Eq (values.Number k)) t.False)
+      ((r : AttributeBlock) × (found ≡ Some r) × (next_hop_of r ≡ k))
 
 pub record AskedOf (at : Place) (of : Who) (n : ℕ) : Type 0 where
   pub sent : Asked at Sent of (at.scene.sent n)
@@ -76,7 +95,8 @@ pub record AskedOf (at : Place) (of : Who) (n : ℕ) : Type 0 where
 -- `n is m`: one number. `asn(n) = k`: k is its AS.
 pub record Neighbours (at : Place) (one other : Who) (n m : ℕ) : Type 0 where
   pub is_ : Means at (t.Is one other) (n ≡ m)
-  pub asn : (x : Neighbour) (k : ℕ) → slice_get at.neighbours n ≡ Some x → Means at (t.Compare (values.Asn one) cmps.Eq (values.Number k)) (x.asn ≡ k)
+  pub asn : (x : Neighbour) (k : ℕ) → slice_get at.neighbours n ≡ Some x
+      → Means at (t.Compare (values.Asn one) cmps.Eq (values.Number k)) (x.asn ≡ k)
 
 -- the prefix is no shorter than the pattern's, no longer than its greatest length, and begins with the same bits
 pub record Fits (p : Cidr) (w : Pattern) : Type 0 where
@@ -85,7 +105,8 @@ pub record Fits (p : Cidr) (w : Pattern) : Type 0 where
   pub bits : front p.addr w.prefix.len ≡ front w.prefix.addr w.prefix.len
 
 pub record Prefixes (at : Place) : Type 0 where
-  pub prefix_in : (patterns : List Pattern) → Means at (t.PrefixIn patterns) (Any (λ w. Fits at.scene.prefix w) patterns)
+  pub prefix_in : (patterns : List Pattern)
+      → Means at (t.PrefixIn patterns) (Any (λ w. Fits at.scene.prefix w) patterns)
   pub bits : (k : ℕ) → Means at (t.Compare values.Bits cmps.Eq (values.Number k)) (at.scene.prefix.len ≡ k)
 
 -- ---- comparisons, of two terms that are the numbers n and m

@@ -4,7 +4,7 @@ use Rattle.std.specs.Prelude.{◌≡◌, ℕ, ◌+◌, ◌*◌, Bool, true, fals
 use Rattle.std.specs.List.{flat_map}
 use Rattle.byteorder.specs.Endian.{big_bytes}
 use Rattle.nr_prefix.specs.declared.set.Pattern.{Pattern}
-use Rattle.nr_spec_bgp.specs.Prefixes.{Cidr}
+use Rattle.nr_spec_bgp.specs.Prefixes.{Cidr, IsCidr}
 use Rattle.nr_spec_bgp.specs.Attributes.{Attribute, AttributeBlock, attributes_in}
 use Rattle.nr_rule_syntax.specs.declared.tree.Side.TheVariants.{Sent, Received}
 use Rattle.nr_rule_syntax.specs.declared.tree.Cmp.TheVariants as cmps
@@ -62,7 +62,12 @@ unprepended = route_of (origin 0 ∷ sequence (64510 ∷ 64520 ∷ []) ∷ hop 3
 
 -- AS_PATH of an AS_SEQUENCE and an AS_SET, and of an AS_SET alone
 abbrev pub merged : AttributeBlock
-merged = route_of (origin 0 ∷ record { kind = 2; value = (sequence (64500 ∷ 64510 ∷ [])).value ++ set_bytes (64520 ∷ 64530 ∷ 64540 ∷ []) } ∷ hop 3221225994 ∷ [])
+merged = route_of
+    (origin 0 ∷ record {
+      kind = 2;
+      value =
+          (sequence (64500 ∷ 64510 ∷ [])).value ++ set_bytes (64520 ∷ 64530 ∷ 64540 ∷ []);
+    } ∷ hop 3221225994 ∷ [])
 
 abbrev pub set_first : AttributeBlock
 set_first = route_of (origin 0 ∷ record { kind = 2; value = set_bytes (64500 ∷ []) } ∷ hop 3221225994 ∷ [])
@@ -83,6 +88,21 @@ inside_own = record { addr = 3325256704; len = 26 }
 -- 198.51.100.0/27
 abbrev pub too_long : Cidr
 too_long = record { addr = 3325256704; len = 27 }
+
+-- 203.0.112.0/23
+abbrev pub around_own : Cidr
+around_own = record { addr = 3405803520; len = 23 }
+
+-- 198.51.101.0/24, as long as the own ones, with other bits
+abbrev pub beside_own : Cidr
+beside_own = record { addr = 3325256960; len = 24 }
+
+-- the prefixes of the scenes are prefixes
+pub record ScenesStand : Type 0 where
+  pub inside_own : IsCidr inside_own
+  pub too_long : IsCidr too_long
+  pub around_own : IsCidr around_own
+  pub beside_own : IsCidr beside_own
 
 abbrev pub neighbour : ℕ → ℕ → Neighbour
 neighbour asn addr = record { name = []; asn = asn; addr = addr; key = None }
@@ -107,26 +127,35 @@ pub record NoExport : Type 0 where
   pub tagged_to_a_peer : Is transit_and_peers (sending inside_own (only 2 tagged)) no_export false
   pub tagged_to_transit : Is transit_and_peers (sending inside_own (only 0 tagged)) no_export true
   pub plain_to_a_peer : Is transit_and_peers (sending inside_own (only 2 plain)) no_export true
-  pub tagged_from_a_peer : Is transit_and_peers (record { prefix = inside_own; received = only 2 tagged; sent = nowhere }) no_export true
+  pub tagged_from_a_peer : Is transit_and_peers
+      (record { prefix = inside_own; received = only 2 tagged; sent = nowhere }) no_export true
 
 -- ---- prefer_customer: if s = sent(peer_a) then received(customer) implies s crosses asn(customer) else true end
 
 abbrev pub prefer_customer : Typing
-prefer_customer = t.If 0 Sent (Named 1) (t.Implies (t.Stands Received (Named 0)) (t.Crosses 0 (values.Asn (Named 0)))) t.True
+prefer_customer =
+    t.If 0 Sent (Named 1) (t.Implies (t.Stands Received (Named 0)) (t.Crosses 0 (values.Asn (Named 0)))) t.True
 
 abbrev pub customer_and_peer : List Neighbour
 customer_and_peer = neighbour 64520 3221226004 ∷ neighbour 64511 3221225995 ∷ []
 
 pub record PreferCustomer : Type 0 where
-  pub other_way : Is customer_and_peer (record { prefix = inside_own; received = only 0 plain; sent = only 1 plain }) prefer_customer false
-  pub by_the_customer : Is customer_and_peer (record { prefix = inside_own; received = only 0 plain; sent = only 1 by_customer }) prefer_customer true
+  pub other_way : Is customer_and_peer
+      (record { prefix = inside_own; received = only 0 plain; sent = only 1 plain }) prefer_customer false
+  pub by_the_customer : Is customer_and_peer
+      (record { prefix = inside_own; received = only 0 plain; sent = only 1 by_customer }) prefer_customer true
   pub nothing_from_the_customer : Is customer_and_peer (sending inside_own (only 1 plain)) prefer_customer true
-  pub nothing_sent : Is customer_and_peer (record { prefix = inside_own; received = only 0 plain; sent = nowhere }) prefer_customer true
+  pub nothing_sent : Is customer_and_peer
+      (record { prefix = inside_own; received = only 0 plain; sent = nowhere }) prefer_customer true
 
 -- ---- only_own: all n in peers { sent(n) implies prefix in own }, with own = 198.51.100.0/24 le 26, 203.0.113.0/24
 
 abbrev pub own : List Pattern
-own = record { prefix = record { addr = 3325256704; len = 24 }; most = 26 } ∷ record { prefix = record { addr = 3405803776; len = 24 }; most = 24 } ∷ []
+own = record { prefix = record { addr = 3325256704; len = 24 }; most = 26 } ∷ record {
+  prefix =
+      record { addr = 3405803776; len = 24 };
+  most = 24;
+} ∷ []
 
 abbrev pub only_own : Typing
 only_own = t.All 0 (0 ∷ 1 ∷ []) (t.Implies (t.Stands Sent (Var 0)) (t.PrefixIn own))
@@ -137,7 +166,8 @@ two_peers = neighbour 64511 3221225995 ∷ neighbour 64512 3221225996 ∷ []
 pub record OnlyOwn : Type 0 where
   pub own_prefix : Is two_peers (sending inside_own (only 1 plain)) only_own true
   pub longer_than_26 : Is two_peers (sending too_long (only 1 plain)) only_own false
-  pub another_prefix : Is two_peers (sending (record { addr = 3405803776; len = 23 }) (only 0 plain)) only_own false
+  pub shorter_than_24 : Is two_peers (sending around_own (only 0 plain)) only_own false
+  pub another_prefix : Is two_peers (sending beside_own (only 0 plain)) only_own false
   pub nothing_sent : Is two_peers (sending too_long nowhere) only_own true
 
 -- ---- reachable: some n in upstreams { sent(n) }
@@ -148,7 +178,8 @@ reachable = t.Some 0 (0 ∷ 1 ∷ []) (t.Stands Sent (Var 0))
 pub record Reachable : Type 0 where
   pub sent_to_one : Is two_peers (sending inside_own (only 1 plain)) reachable true
   pub sent_to_none : Is two_peers (sending inside_own nowhere) reachable false
-  pub only_received : Is two_peers (record { prefix = inside_own; received = only 1 plain; sent = nowhere }) reachable false
+  pub only_received : Is two_peers
+      (record { prefix = inside_own; received = only 1 plain; sent = nowhere }) reachable false
 
 -- ---- short: all n in peers { if r = sent(n) then length(r) <= 3 and first(r) = 64500 else true end }
 
@@ -156,7 +187,8 @@ abbrev pub short : Typing
 short =
     t.All 0 (0 ∷ 1 ∷ [])
     (t.If 1 Sent (Var 0)
-    (t.And (t.Compare (values.Length 1) cmps.Le (values.Number 3) ∷ t.Compare (values.First 1) cmps.Eq (values.Number 64500) ∷ []))
+    (t.And (t.Compare (values.Length 1) cmps.Le (values.Number 3)
+    ∷ t.Compare (values.First 1) cmps.Eq (values.Number 64500) ∷ []))
     t.True)
 
 pub record Short : Type 0 where
@@ -169,20 +201,24 @@ pub record Short : Type 0 where
   pub behind_a_set : Is two_peers (sending inside_own (only 0 set_first)) short false
   pub nothing_sent : Is two_peers (sending inside_own nowhere) short true
 
--- ---- other_router: all n in routers { if r = received(n) then some m in routers { sent(m) and not m is n } else true end },
+-- ---- other_router:
+-- ---- all n in routers { if r = received(n) then some m in routers { sent(m) and not m is n } else true end }
 -- ---- where both routers are of one AS
 
 abbrev pub other_router : Typing
 other_router =
     t.All 0 (0 ∷ 1 ∷ [])
-    (t.If 1 Received (Var 0) (t.Some 2 (0 ∷ 1 ∷ []) (t.And (t.Stands Sent (Var 2) ∷ t.Not (t.Is (Var 2) (Var 0)) ∷ []))) t.True)
+    (t.If 1 Received (Var 0)
+    (t.Some 2 (0 ∷ 1 ∷ []) (t.And (t.Stands Sent (Var 2) ∷ t.Not (t.Is (Var 2) (Var 0)) ∷ []))) t.True)
 
 abbrev pub two_routers : List Neighbour
 two_routers = neighbour 64511 3221225995 ∷ neighbour 64511 3221225996 ∷ []
 
 pub record OtherRouter : Type 0 where
-  pub by_the_other : Is two_routers (record { prefix = inside_own; received = only 0 plain; sent = only 1 plain }) other_router true
-  pub by_itself : Is two_routers (record { prefix = inside_own; received = only 0 plain; sent = only 0 plain }) other_router false
+  pub by_the_other : Is two_routers
+      (record { prefix = inside_own; received = only 0 plain; sent = only 1 plain }) other_router true
+  pub by_itself : Is two_routers
+      (record { prefix = inside_own; received = only 0 plain; sent = only 0 plain }) other_router false
   pub nothing_received : Is two_routers (sending inside_own (only 0 plain)) other_router true
 
 -- ---- the routes are what their bytes read as

@@ -54,12 +54,15 @@ number_or m neighbours scene things (values.Asn of) = asn_or m (slice_get neighb
 
 -- the steps that ask for a variable or a neighbour; the others ask for none
 abbrev pub step_or : StandIns → List text.Neighbour → Scene → Typing-F Holding → Holding
-step_or m neighbours scene (Typing-F.If var side of yes_ no_) = λ things. with_route (route_in scene side (who_or m things of)) yes_ no_ things
+step_or m neighbours scene (Typing-F.If var side of yes_ no_) =
+    λ things. with_route (route_in scene side (who_or m things of)) yes_ no_ things
 step_or m neighbours scene (Typing-F.Stands side of) = λ things. is_some (route_in scene side (who_or m things of))
 step_or m neighbours scene (Typing-F.Has v community) = λ things. has_community community (route_at_or m things v)
-step_or m neighbours scene (Typing-F.Crosses v term) = λ things. paths.crosses (number_or m neighbours scene things term) (path_of (route_at_or m things v))
+step_or m neighbours scene (Typing-F.Crosses v term) =
+    λ things. paths.crosses (number_or m neighbours scene things term) (path_of (route_at_or m things v))
 step_or m neighbours scene (Typing-F.Is left right) = λ things. who_or m things left == who_or m things right
-step_or m neighbours scene (Typing-F.Compare left op right) = λ things. compares (number_or m neighbours scene things left) op (number_or m neighbours scene things right)
+step_or m neighbours scene (Typing-F.Compare left op right) =
+    λ things. compares (number_or m neighbours scene things left) op (number_or m neighbours scene things right)
 step_or m neighbours scene layer = holds_step neighbours scene layer
 
 -- whether a formula holds, with these stand-ins

@@ -61,4 +61,5 @@ Counts at (values.Origin v) k = Answer at v origin_of k
 Counts at (values.First v) k = Answer at v (λ r. first_as (path_of r)) k
 Counts at (values.Last v) k = Answer at v (λ r. last_as (path_of r)) k
 Counts at (values.Hop v) k = Answer at v next_hop_of k
-Counts at (values.Asn of) k = (n : ℕ) × Names at of n × ((x : Neighbour) × (slice_get at.neighbours n ≡ Some x) × (x.asn ≡ k))
+Counts at (values.Asn of) k =
+    (n : ℕ) × Names at of n × ((x : Neighbour) × (slice_get at.neighbours n ≡ Some x) × (x.asn ≡ k))

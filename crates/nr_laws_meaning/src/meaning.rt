@@ -35,7 +35,8 @@ pub fn routes_are_asked()
 
 /// `is` and `asn` by the neighbours.
 pub fn neighbours_mean()
-    ensures { (at : Place) (one other : Who) (n m : ℕ) → Names at one n → Names at other m → Neighbours at one other n m }
+    ensures { (at : Place) (one other : Who) (n m : ℕ) → Names at one n → Names at other m
+        → Neighbours at one other n m }
 {}
 
 /// `prefix in` by coverage and length, `bits` by the length.

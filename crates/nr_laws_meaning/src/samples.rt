@@ -1,6 +1,6 @@
 //! The examples of the document on promises, judged.
 
-ghost use Rattle.nr_laws_meaning.specs.Samples.{NoExport, PreferCustomer, OnlyOwn, Reachable, Short, OtherRouter, RoutesRead};
+ghost use Rattle.nr_laws_meaning.specs.Samples.{NoExport, PreferCustomer, OnlyOwn, Reachable, Short, OtherRouter, RoutesRead, ScenesStand};
 
 /// Each example holds and fails in the scenes where a reader expects it.
 pub fn examples_are_judged()
@@ -11,4 +11,5 @@ pub fn examples_are_judged()
     ensures short { Short }
     ensures other_router { OtherRouter }
     ensures routes { RoutesRead }
+    ensures prefixes { ScenesStand }
 {}

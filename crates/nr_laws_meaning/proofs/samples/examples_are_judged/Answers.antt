@@ -1,4 +1,4 @@
-use Rattle.nr_laws_meaning.proofs.SamplesJudged.{no_export, prefer_customer, only_own, reachable, short, other_router, routes_read}
+use Rattle.nr_laws_meaning.proofs.SamplesJudged.{no_export, prefer_customer, only_own, reachable, short, other_router, routes_read, scenes_stand}
 use Rattle.nr_laws_meaning.proofs.samples.examples_are_judged.Goals as goal
 
 pub returns-clause-no_export : goal.returns-clause-no_export
@@ -21,3 +21,6 @@ returns-clause-other_router c = other_router
 
 pub returns-clause-routes : goal.returns-clause-routes
 returns-clause-routes c = routes_read
+
+pub returns-clause-prefixes : goal.returns-clause-prefixes
+returns-clause-prefixes c = scenes_stand
