@@ -4,3 +4,6 @@ pub mod EntryCases
 pub mod AnswerCases
 pub mod PartBytes
 pub mod AuthAgain
+pub mod EntryAgain
+pub mod OpeningAgain
+pub mod AnswerAgain
