@@ -6,3 +6,4 @@ pub mod Removed
 pub mod Short
 pub mod Gathering
 pub mod OthersOnce
+pub mod First

@@ -16,6 +16,7 @@ use crate::places::Places;
 use crate::route::Route;
 use nr_bytes::Memory;
 use nr_prefix::Prefix;
+use nr_spec_routes::Direction;
 use std::alloc::Global;
 use std::collections::BTreeMap;
 use std::collections::btree_map::Iter;
@@ -133,10 +134,19 @@ impl Table {
         self.rows.len()
     }
 
+    /// Looks at one row: the first that isn't before those of the prefix.
     pub fn stands(&self, prefix: &Prefix) -> bool
         ensures { result ≡ stands_in self.now prefix.now }
     {
-        self.rows.keys().any(|key| key.prefix == *prefix)
+        let first = Key {
+            prefix: *prefix,
+            direction: Direction::Received,
+            neighbour: 0,
+        };
+        match self.rows.range(first..).next() {
+            Some((key, _)) => key.prefix == *prefix,
+            None => false,
+        }
     }
 
     pub fn iter(&self) -> Iter<'_, Key, Route>
