@@ -13,14 +13,9 @@ use crate::body::body_digest;
 use crate::counts::Counts;
 use crate::numbers::FileNumbers;
 use nr_chain::{Digest, Entry};
-use nr_entry::Content;
+use nr_entry::{AUDITOR, Content, PROMISE};
 use nr_spec_counts::Cause;
 use nr_tables::State;
-
-const PROMISE: u8 = 7;
-
-// The auditor, where a COMMIT names a neighbour.
-const AUDITOR: u16 = 65_535;
 
 fn is_declared(force: Option<FileNumbers>, neighbour: u16) -> bool
     ensures { result ≡ is_declared (option_map numbers_of force) neighbour }

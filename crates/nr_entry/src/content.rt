@@ -2,6 +2,12 @@
 
 use nr_chain::Digest;
 
+/// The kind of a PROMISE.
+pub const PROMISE: u8 = 7;
+
+/// The auditor, where a COMMIT names a neighbour.
+pub const AUDITOR: u16 = 65_535;
+
 /// The content of an entry. Neighbours are numbered from 0 and are below 256.
 #[derive(Clone, Copy, Debug)]
 pub enum Content<'a> {

@@ -6,6 +6,6 @@ mod content;
 mod reading;
 mod writing;
 
-pub use content::Content;
+pub use content::{AUDITOR, Content, PROMISE};
 pub use reading::read;
 pub use writing::write;

@@ -9,7 +9,7 @@ ghost use Rattle.nr_spec_entry.specs.Contents.{IsContent};
 ghost use Rattle.nr_spec_entry.specs.ContentReading.{neighbour_at, exchange_at, state_at, ack_at, commit_at, checkpoint_at, promise_at, content_at, content_in};
 ghost use Rattle.nr_entry.specs.Views.{content_view, exchange_view};
 
-use crate::content::Content;
+use crate::content::{AUDITOR, Content, PROMISE};
 use nr_bytes::{Cursor, Place};
 use nr_chain::Digest;
 
@@ -24,11 +24,6 @@ const ACK: u8 = 4;
 const COMMIT: u8 = 5;
 
 const CHECKPOINT: u8 = 6;
-
-const PROMISE: u8 = 7;
-
-// The auditor, where a COMMIT names a neighbour.
-const AUDITOR: u16 = 65_535;
 
 // A year in seconds.
 const MOST_DELAY: u32 = 31_536_000;
