@@ -1,5 +1,7 @@
 mod Elsewhere
 mod Judged
+mod Meaning
+mod Noding
 mod Numbering
 mod Resolving
 mod Saying

@@ -1,5 +1,5 @@
 -- What names are resolved to.
-use Rattle.std.proofs.Common.{◌≡◌, ℕ, zero, suc, ◌+◌, ◌<◌, cond, nat_lt, Bool, true, false, ◌&&◌, not, List, [], ◌∷◌, ◌++◌, length, position, slice_get, is_none, Option, Some, None, Ok, refl, ap, sym, subst, ◌∙◌, arith}
+use Rattle.std.proofs.Common.{◌≡◌, ℕ, zero, suc, ◌+◌, ◌<◌, cond, nat_lt, Bool, true, false, ◌&&◌, not, List, [], ◌∷◌, ◌++◌, length, position, slice_get, is_none, Option, Some, None, Ok, inl, inr, refl, ap, sym, subst, ◌∙◌, arith}
 use Rattle.std.specs.List.{position_or_len, list_any}
 use Rattle.std.specs.Str.{bytes_eq}
 use Rattle.std.proofs.lemmas.Option.{slice_get_within}
@@ -10,9 +10,9 @@ use Rattle.nr_spec_typing.specs.declared.name.Bound.{Bound}
 use Rattle.nr_spec_typing.specs.declared.name.Bound.TheVariants.{Neighbour, Route}
 use Rattle.nr_spec_typing.specs.declared.name.Variable.{Variable}
 use Rattle.nr_spec_typing.specs.Scopes.{Scope, meaning, same_bound, is_called, variable, who_by, who, route_by, route, is_fresh, new_variable, bind}
-use Rattle.nr_spec_typing.proofs.Fitting.{passed, left, right}
+use Rattle.nr_spec_typing.proofs.Fitting.{passed, both, left, right}
 use Rattle.nr_laws_typing.specs.Resolved.{SameWord, AreNamed, IsNext, Resolves}
-use Rattle.nr_spec_typing.proofs.Differ.{no_two_more, none_like}
+use Rattle.nr_spec_typing.proofs.Differ.{got, no_two_more, none_like}
 
 not_true : (a : Bool) → not a ≡ true → a ≡ false
 not_true true h = cc
@@ -65,16 +65,31 @@ before_at [] x n y h = cc
 before_at (z ∷ xs) x zero y h = h
 before_at (z ∷ xs) x (suc n) y h = before_at xs x n y h
 
-same_called : (s : Scope) (name called : Name) → new_variable s name ≡ Ok called → name ≡ called
-unfolding new_variable
-same_called s name called h = (passed (is_fresh s name.word) name.span.from name called h).1
+self_bound : (bound : Bound) → same_bound bound bound ≡ true
+self_bound Neighbour = refl
+self_bound Route = refl
 
-pub is_next : (s : Scope) (name called : Name) → AreNamed s → new_variable s name ≡ Ok called → IsNext s name called
-is_next s name called named h =
-    let e = sym (ap (λ (n : Name). n.word) (same_called s name called h)) in
+-- a variable that is bound is the only one with its name, and the last
+is_last : (s : Scope) (name called : Name) (bound : Bound) → new_variable s name ≡ Ok called → variable bound (bind s bound called).variables name.word ≡ Some (length s.variables)
+unfolding new_variable
+is_last s name called bound h =
+    let p = passed (is_fresh s name.word) name.span.from name called h in
+    let fresh = not_true (list_any (λ (v : Variable). bytes_eq v.word name.word) s.variables) (right (is_none (meaning s.names name.word)) (not (list_any (λ (v : Variable). bytes_eq v.word name.word) s.variables)) p.0) in
+    let v : Variable = record { word = called.word; bound = bound } in
+    let e : called.word ≡ name.word = sym (ap (λ (n : Name). n.word) p.1) in
+    position_alone (is_called bound name.word) (s.variables ++ v ∷ []) (length s.variables) v (last_at s.variables v)
+    (both (bytes_eq called.word name.word) (same_bound bound bound) ((bytes_eq-Decides called.word name.word).1 e) (self_bound bound))
+    (λ j w g t. elim (got s.variables v j w g) [
+      | inl q ↦ absurd (none_like (λ (v : Variable). bytes_eq v.word name.word) s.variables j w fresh q (left (bytes_eq w.word name.word) (same_bound w.bound bound) t))
+      | inr q ↦ q.0
+    ])
+
+pub is_next : (s : Scope) (name called : Name) → new_variable s name ≡ Ok called → IsNext s name called
+unfolding who route
+is_next s name called h =
     let v : Bound → Variable = λ bound. record { word = called.word; bound = bound } in
     record {
-      neighbour = (resolves (bind s Neighbour called) name (length s.variables) (v Neighbour) (named_more s name called Neighbour named h) (last_at s.variables (v Neighbour)) e).neighbour refl;
-      route = (resolves (bind s Route called) name (length s.variables) (v Route) (named_more s name called Route named h) (last_at s.variables (v Route)) e).route refl;
+      neighbour = ap (λ o. who_by name.span.from o (meaning s.names name.word)) (is_last s name called Neighbour h);
+      route = ap (λ o. route_by name.span.from o) (is_last s name called Route h);
       others = λ bound i w g. before_at s.variables (v bound) i w g;
     }

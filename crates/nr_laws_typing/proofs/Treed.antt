@@ -49,7 +49,7 @@ pub record Halves {A S : Type 0} (step : S → A → Result S ℕ) (s : S) (xs :
   pub one : step here x ≡ Ok next
   pub from : in_turn step next ys ≡ Ok t
 
-halves : {A S : Type 0} (step : S → A → Result S ℕ) (s : S) (xs : List A) (x : A) (ys : List A) (t : S) → in_turn step s (xs ++ x ∷ ys) ≡ Ok t → Halves step s xs x ys t
+pub halves : {A S : Type 0} (step : S → A → Result S ℕ) (s : S) (xs : List A) (x : A) (ys : List A) (t : S) → in_turn step s (xs ++ x ∷ ys) ≡ Ok t → Halves step s xs x ys t
 unfolding in_turn
 halves step s [] x ys t h =
     let p = chained (λ next. in_turn step next ys) (step s x) t h in

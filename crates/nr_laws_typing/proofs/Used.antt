@@ -14,17 +14,18 @@ use Rattle.nr_rule_syntax.specs.declared.tree.Form.{Form, map-Form, roll-Form, f
 use Rattle.nr_rule_syntax.specs.declared.tree.Form.TheOpen.{Form-F}
 use Rattle.nr_spec_typing.specs.declared.name.Named.{Named}
 use Rattle.nr_spec_typing.specs.declared.name.Named.TheVariants as named
+use Rattle.nr_spec_typing.specs.declared.name.Bound.{Bound}
 use Rattle.nr_spec_typing.specs.declared.name.Bound.TheVariants.{Neighbour, Route}
 use Rattle.nr_spec_typing.specs.declared.name.Variable.{Variable}
 use Rattle.nr_spec_typing.specs.declared.tree.Value.{Value}
 use Rattle.nr_spec_typing.specs.declared.tree.Value.TheVariants as values
 use Rattle.nr_spec_typing.specs.declared.tree.Typing.TheVariants as typings
 use Rattle.nr_spec_typing.specs.Steps.{◌<$>◌, all_of}
-use Rattle.nr_spec_typing.specs.Scopes.{Scope, meaning, is_called, variable, who_by, who, route_by, route, group_by, group, set_by, set, is_fresh, new_variable, bind}
+use Rattle.nr_spec_typing.specs.Scopes.{Scope, meaning, same_bound, is_called, variable, who_by, who, route_by, route, group_by, group, set_by, set, is_fresh, new_variable, bind}
 use Rattle.nr_spec_typing.specs.Forms.{Typer, typed_step, typed, each, value, implies, over_group, conditional, crosses, is_same, compared}
 use Rattle.nr_spec_typing.proofs.Fitting.{passed}
 use Rattle.nr_laws_typing.specs.Uses as want
-use Rattle.nr_laws_typing.specs.Uses.{Kind, Want, Use, Using, asks, with_variable, term_uses, uses_step, uses, is_wanted, is_neighbour, is_group, is_set, demand_of}
+use Rattle.nr_laws_typing.specs.Uses.{Kind, Want, Use, Using, asks, with_variable, term_uses, uses_step, uses, is_wanted, is_kind, is_bound, is_neighbour, is_group, is_set, demand_of}
 use Rattle.nr_laws_typing.specs.Demands.{Demand, unless, or_else, first_unmet}
 use Rattle.nr_laws_typing.specs.Views.{kind_named, kind_by}
 
@@ -72,6 +73,18 @@ some_if false n r h = ap (λ (o : Option ℕ). is_some o) h
 some_position : {A : Type 0} (p : A → Bool) (xs : List A) → is_some (position p xs) ≡ list_any p xs
 some_position p xs = some_if (nat_lt (position_or_len p xs) (length xs)) (position_or_len p xs) (position p xs) refl ∙ found_within p xs
 
+kind_bound : (bound found : Bound) → same_bound found bound ≡ is_kind bound found
+kind_bound Neighbour Neighbour = refl
+kind_bound Neighbour Route = refl
+kind_bound Route Neighbour = refl
+kind_bound Route Route = refl
+
+any_bound : (bound : Bound) (name : Name) (around : List Variable) → list_any (is_called bound name.word) around ≡ is_bound bound name around
+any_bound bound name [] = refl
+any_bound bound name (v ∷ around) =
+    ap (λ b. (bytes_eq v.word name.word && b) || list_any (is_called bound name.word) around) (kind_bound bound v.bound)
+    ∙ ap (λ b. (bytes_eq v.word name.word && is_kind bound v.bound) || b) (any_bound bound name around)
+
 who_told_by : (place : ℕ) (found : Option ℕ) (m : Option Named) → fault (who_by place found m) ≡ unless (is_some found || is_neighbour (kind_named m)) place
 who_told_by place (Some n) m = refl
 who_told_by place None None = refl
@@ -87,7 +100,7 @@ one s w name = unless (is_wanted (kind_by s.names) name s.variables w) name.span
 who_told : (s : Scope) (name : Name) → fault (who s name) ≡ one s want.Who name
 unfolding who
 who_told s name = who_told_by name.span.from (variable Neighbour s.variables name.word) (meaning s.names name.word)
-    ∙ ap (λ b. unless (b || is_neighbour (kind_by s.names name.word)) name.span.from) (some_position (is_called Neighbour name.word) s.variables)
+    ∙ ap (λ b. unless (b || is_neighbour (kind_by s.names name.word)) name.span.from) (some_position (is_called Neighbour name.word) s.variables ∙ any_bound Neighbour name s.variables)
 
 route_told_by : (place : ℕ) (found : Option ℕ) → fault (route_by place found) ≡ unless (is_some found) place
 route_told_by place (Some n) = refl
@@ -95,7 +108,7 @@ route_told_by place None = refl
 
 route_told : (s : Scope) (name : Name) → fault (route s name) ≡ one s want.OneRoute name
 unfolding route
-route_told s name = route_told_by name.span.from (variable Route s.variables name.word) ∙ ap (λ b. unless b name.span.from) (some_position (is_called Route name.word) s.variables)
+route_told s name = route_told_by name.span.from (variable Route s.variables name.word) ∙ ap (λ b. unless b name.span.from) (some_position (is_called Route name.word) s.variables ∙ any_bound Route name s.variables)
 
 group_told_by : (place : ℕ) (m : Option Named) → fault (group_by place m) ≡ unless (is_group (kind_named m)) place
 group_told_by place None = refl

@@ -67,7 +67,8 @@ same_number _ _ = false
 
 -- another neighbour has this AS, and this address or this number
 abbrev pub is_alike : Num → Num → Option (RootText × Num) → Decl → Bool
-is_alike asn addr key (decls.Neighbour name n a k) = n.value == asn.value && (a.value == addr.value || same_number k key)
+is_alike asn addr key (decls.Neighbour name n a k) =
+    n.value == asn.value && (a.value == addr.value || same_number k key)
 is_alike asn addr key _ = false
 
 -- `number` is below 256

@@ -1,6 +1,8 @@
 pub mod Demands
 pub mod Fine
+pub mod Meanings
 pub mod Moved
+pub mod Nodes
 pub mod Numbered
 pub mod Resolved
 pub mod Says

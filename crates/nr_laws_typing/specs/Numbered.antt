@@ -10,5 +10,7 @@ use Rattle.nr_laws_typing.specs.Says.{neighbour_in}
 
 -- what the names mean that were declared, behind these declarations
 pub record AreNumbered (before : List Decl) (names : List Declared) : Type 0 where
-  pub means : (n : ℕ) (x : Neighbour) → slice_get (flat_map neighbour_in before) n ≡ Some x → meaning names x.name ≡ Some (named.Neighbour n)
-  pub meant : (n : ℕ) (word : List ℕ) → meaning names word ≡ Some (named.Neighbour n) → (x : Neighbour) × (slice_get (flat_map neighbour_in before) n ≡ Some x) × (x.name ≡ word)
+  pub means : (n : ℕ) (x : Neighbour) → slice_get (flat_map neighbour_in before) n ≡ Some x → meaning names x.name
+      ≡ Some (named.Neighbour n)
+  pub meant : (n : ℕ) (word : List ℕ) → meaning names word ≡ Some (named.Neighbour n) → (x : Neighbour)
+      × (slice_get (flat_map neighbour_in before) n ≡ Some x) × (x.name ≡ word)

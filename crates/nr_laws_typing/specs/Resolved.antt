@@ -26,4 +26,5 @@ pub record Resolves (s : Scope) (name : Name) (i : ℕ) (v : Variable) : Type 0 
 pub record IsNext (s : Scope) (name called : Name) : Type 0 where
   pub neighbour : who (bind s Neighbour called) name ≡ Ok (whos.Var (length s.variables))
   pub route : route (bind s Route called) name ≡ Ok (length s.variables)
-  pub others : (bound : Bound) (i : ℕ) (v : Variable) → slice_get s.variables i ≡ Some v → slice_get (bind s bound called).variables i ≡ Some v
+  pub others : (bound : Bound) (i : ℕ) (v : Variable) → slice_get s.variables i ≡ Some v
+      → slice_get (bind s bound called).variables i ≡ Some v

@@ -33,11 +33,13 @@ commit_in (decls.Commit value span) = value.value ∷ []
 commit_in _ = []
 
 abbrev pub neighbour_in : Decl → List Neighbour
-neighbour_in (decls.Neighbour name asn addr key) = record { name = name.word; asn = asn.value; addr = addr.value; key = key_said key } ∷ []
+neighbour_in (decls.Neighbour name asn addr key) =
+    record { name = name.word; asn = asn.value; addr = addr.value; key = key_said key } ∷ []
 neighbour_in _ = []
 
 abbrev pub head_in : Decl → List Head
-head_in (decls.Promise name grace at form) = record { name = name.word; grace = grace.value; at = map (λ p. p.prefix) at } ∷ []
+head_in (decls.Promise name grace at form) =
+    record { name = name.word; grace = grace.value; at = map (λ p. p.prefix) at } ∷ []
 head_in _ = []
 
 pub record Says (text : TypedText) (decls : List Decl) : Type 0 where

@@ -11,7 +11,6 @@ use Rattle.nr_rule_syntax.specs.declared.tree.Term.TheVariants as terms
 use Rattle.nr_spec_typing.specs.declared.name.Bound.{Bound}
 use Rattle.nr_spec_typing.specs.declared.name.Bound.TheVariants.{Neighbour, Route}
 use Rattle.nr_spec_typing.specs.declared.name.Variable.{Variable}
-use Rattle.nr_spec_typing.specs.Scopes.{is_called}
 use Rattle.nr_laws_typing.specs.Demands.{Demand}
 
 -- what a declared name is
@@ -47,8 +46,13 @@ abbrev pub is_set : Option Kind → Bool
 is_set (Some ASet) = true
 is_set _ = false
 
+abbrev pub is_kind : Bound → Bound → Bool
+is_kind Neighbour found = elim found [ Neighbour ↦ true | Route ↦ false ]
+is_kind Route found = elim found [ Neighbour ↦ false | Route ↦ true ]
+
+-- some variable around has this name, and stands for this
 abbrev pub is_bound : Bound → Name → List Variable → Bool
-is_bound bound name around = list_any (is_called bound name.word) around
+is_bound bound name around = list_any (λ v. bytes_eq v.word name.word && is_kind bound v.bound) around
 
 -- whether a use of this name is as it is wanted, where the names declared before are of these kinds
 abbrev pub is_wanted : (List ℕ → Option Kind) → Name → List Variable → Want → Bool
@@ -94,9 +98,12 @@ uses_step (Form-F.Not held) = held
 uses_step (Form-F.And members) = λ around. flat_map (λ member. member around) members
 uses_step (Form-F.Or members) = λ around. flat_map (λ member. member around) members
 uses_step (Form-F.Implies left right) = λ around. left around ++ right around
-uses_step (Form-F.All var among form) = λ around. asks New var around ++ (asks Group among around ++ form (with_variable Neighbour var around))
-uses_step (Form-F.Some var among form) = λ around. asks New var around ++ (asks Group among around ++ form (with_variable Neighbour var around))
-uses_step (Form-F.If var side of yes_ no_) = λ around. asks New var around ++ (asks Who of around ++ (yes_ (with_variable Route var around) ++ no_ around))
+uses_step (Form-F.All var among form) =
+    λ around. asks New var around ++ (asks Group among around ++ form (with_variable Neighbour var around))
+uses_step (Form-F.Some var among form) =
+    λ around. asks New var around ++ (asks Group among around ++ form (with_variable Neighbour var around))
+uses_step (Form-F.If var side of yes_ no_) =
+    λ around. asks New var around ++ (asks Who of around ++ (yes_ (with_variable Route var around) ++ no_ around))
 uses_step (Form-F.Stands side of) = asks Who of
 uses_step (Form-F.Has var community) = asks OneRoute var
 uses_step (Form-F.Crosses var term) = λ around. asks OneRoute var around ++ term_uses term around

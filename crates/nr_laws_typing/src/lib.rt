@@ -5,15 +5,19 @@
 
 mod apart;
 mod fine;
+mod meanings;
+mod nodes;
 mod numbered;
 mod resolved;
 mod says;
 
-pub use apart::declared_names_differ;
+pub use apart::{declared_names_differ, neighbours_and_promises_differ};
 pub use fine::{
     file_is_refused_at_its_first_mistake, formula_is_refused_at_its_first_misuse,
     places_are_not_asked,
 };
+pub use meanings::names_are_what_is_declared;
+pub use nodes::tree_is_of_its_construct;
 pub use numbered::neighbours_are_numbered;
 pub use resolved::{
     bound_variable_is_the_next, variables_are_resolved, variables_have_different_names,

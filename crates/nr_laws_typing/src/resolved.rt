@@ -21,6 +21,5 @@ pub fn variables_are_resolved()
 
 /// A variable that is bound has the next number inside, and those around it keep theirs.
 pub fn bound_variable_is_the_next()
-    ensures { (s : Scope) (name called : Name) → AreNamed s → new_variable s name ≡ Ok called
-        → IsNext s name called }
+    ensures { (s : Scope) (name called : Name) → new_variable s name ≡ Ok called → IsNext s name called }
 {}
