@@ -4,5 +4,5 @@
 mod claim;
 mod period;
 
-pub use claim::{Claim, Statement};
+pub use claim::Claim;
 pub use period::Period;
