@@ -36,11 +36,7 @@ use run::run;
 use std::io;
 use std::process::ExitCode;
 
-// The statuses where there are no words: the output failed, memory ran out, the system gives none.
-const WRITE_FAULT: u8 = 5;
-
-const MEMORY: u8 = 6;
-
+// The status where there are no words, because memory ran out or the system gives none. Nothing is printed then.
 const NO_WORDS: u8 = 8;
 
 // What a command writes is its owner's alone where it holds a secret: a key.
@@ -60,11 +56,7 @@ fn run_words(rt: &HostRuntime, words: &[String]) -> u8 {
 fn main(rt: HostRuntime) -> ExitCode {
     let status = match words(&rt) {
         Ok(words) => run_words(&rt, words.as_slice()),
-        Err(NoWords::Memory) => match println!(rt; "memory") {
-            Ok(()) => MEMORY,
-            Err(_) => WRITE_FAULT,
-        },
-        Err(NoWords::System) => NO_WORDS,
+        Err(NoWords::Memory | NoWords::System) => NO_WORDS,
     };
     ExitCode::from(status)
 }

@@ -8,7 +8,7 @@ ghost use Rattle.netreview.specs.Requests.{audit_request_of, check_request_of, k
 
 use crate::key_request::KeygenRequest;
 use crate::numbers::{Period, number_between, number_of, period_from};
-use crate::roots::root_of;
+use crate::roots::root_in;
 use nr_bytes::Memory;
 use nr_chain::Digest;
 use nr_words::{Grammar, OptionRule, Values, values_of};
@@ -125,7 +125,7 @@ fn audit_from<'a>(values: &Values<'a>) -> Option<AuditRequest<'a>>
     let auths = value_of(values, 3)?;
     let from_word = value_of(values, 4)?;
     let to_word = value_of(values, 5)?;
-    let root = root_of(root_word)?;
+    let root = root_in(root_word)?;
     let from = number_of(from_word)?;
     let to = number_of(to_word)?;
     let period = period_from(from, to)?;

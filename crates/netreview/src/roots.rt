@@ -7,7 +7,7 @@ ghost use Rattle.nr_spec_commands.specs.Words.{root_in};
 use nr_chain::Digest;
 
 /// The root that a word writes: 64 hexadecimal digits of either case.
-pub fn root_of(word: &str) -> Option<Digest>
+pub fn root_in(word: &str) -> Option<Digest>
     ensures { option_map digest_bytes result ≡ root_in word.now }
 {
     let mut root = [0u8; 32];

@@ -2,7 +2,7 @@
 use Rattle.std.proofs.Common.{◌≡◌, ℕ, zero, suc, ◌+◌, ◌≤◌, List, [], ◌∷◌, length, map, drop, refl, ap, arith}
 use Rattle.std.specs.List.{AllByRecursion}
 use Rattle.nr_spec_rules.specs.declared.kind.Kind.{Kind}
-use Rattle.nr_spec_rules.specs.Parsing.{Outcome, Parser, others, behind, following, list, chain}
+use Rattle.nr_spec_rules.specs.Parsing.{Outcome, Parser, others, prepend, following, list, chain}
 use Rattle.nr_laws_print.proofs.Words.{Shown, Words, each_behind, joined}
 use Rattle.nr_laws_print.proofs.Gives.{laid, Gives, gives_then, gives_pure, gives_map, gives_seen, gives_unseen, gives_behind, IsApart}
 
@@ -63,7 +63,7 @@ gives_following {A = A} {B = B} view item Fits between first v xs rest all goes 
       let long : length xs + length rest ≤ length (each_behind between (words_of xs) rest) = grows_each view item Fits between xs rest all in
       let enough : length xs ≤ length (laid (each_behind between (words_of xs) rest) ps) = omega (arith, length_laid (each_behind between (words_of xs) rest) ps) in
       let g = (gives_others view item Fits between xs (length (laid (each_behind between (words_of xs) rest) ps)) rest all goes ends apart enough).run ps in
-      record { value = first ∷ g.value; left = g.left; reads = ap (λ (q : Outcome (List A)). behind (first ∷ []) q) g.reads; same = cc (e, g.same) };
+      record { value = first ∷ g.value; left = g.left; reads = ap (λ (q : Outcome (List A)). prepend (first ∷ []) q) g.reads; same = cc (e, g.same) };
 }
 
 -- one or more, with a word between

@@ -8,7 +8,7 @@ use Rattle.nr_spec_bgp.specs.Prefixes.{Cidr, masked}
 use Rattle.nr_spec_bgp.specs.PrefixText.{address_text, cidr_text}
 use Rattle.nr_spec_rules.specs.declared.kind.Kind.TheVariants as k
 use Rattle.nr_spec_rules.specs.declared.span.Span.{Span}
-use Rattle.nr_spec_rules.specs.Figures.{address_of, prefix_of, root_of}
+use Rattle.nr_spec_rules.specs.Figures.{address_of, prefix_of, digest_of}
 use Rattle.nr_spec_rules.specs.Tokens.{same_kind}
 use Rattle.nr_spec_rules.specs.Parsing.{Parser}
 use Rattle.nr_rule_syntax.specs.declared.tree.Name.{Name}
@@ -50,7 +50,7 @@ root_at bytes = record { digest = record { 0 = bytes }; span = nowhere }
 
 gives_root : (r : RootText) {rest : List Shown} → IsRoot r → Gives bare_root (bare_root r) spec.root (word k.Root (35 ∷ encode_lower r.digest.0) ∷ rest) rest
 unfolding spec.root root_at
-gives_root r h = gives_map _ (gives_valued (word k.Root (35 ∷ encode_lower r.digest.0)) root_of (root_text_read r.digest.0 h.0 h.1)) (λ x e. ap root_at e)
+gives_root r h = gives_map _ (gives_valued (word k.Root (35 ∷ encode_lower r.digest.0)) digest_of (root_text_read r.digest.0 h.0 h.1)) (λ x e. ap root_at e)
 
 -- ---- declarations
 

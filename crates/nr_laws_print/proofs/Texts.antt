@@ -10,7 +10,7 @@ use Rattle.nr_spec_bgp.specs.PrefixText.{address_text, cidr_text}
 use Rattle.std.proofs.lemmas.Bool.{ltb-true}
 use Rattle.std.proofs.lemmas.List.{append-nil}
 use Rattle.nr_spec_rules.specs.Figures as figures
-use Rattle.nr_spec_rules.specs.Figures.{number_of, address_of, prefix_of, community_of, root_of, number_to, cut}
+use Rattle.nr_spec_rules.specs.Figures.{number_of, address_of, prefix_of, community_of, digest_of, number_to, cut}
 use Rattle.nr_rule_syntax.specs.Printing.{community_text}
 use Rattle.nr_rule_syntax.specs.Written.{is_short}
 use Rattle.nr_laws_print.proofs.Figures.{writes_decimal, number_again, cut_at, lacks_digits, lacks_both, lacks_one, Lacks}
@@ -97,5 +97,5 @@ prefix_text_read p h =
     (then_some (address_of (address_text p.addr)) _ p.addr _ (address_text_read p.addr small)
     (then_some (number_to 32 (decimal p.len)) _ p.len _ (part_read 32 p.len h.len (omega (arith, h.len))) refl))
 
-pub root_text_read : (bytes : List ℕ) → length bytes ≡ 32 → IsBytes bytes → root_of (35 ∷ encode_lower bytes) ≡ Some bytes
+pub root_text_read : (bytes : List ℕ) → length bytes ≡ 32 → IsBytes bytes → digest_of (35 ∷ encode_lower bytes) ≡ Some bytes
 root_text_read bytes long h = ap result_ok (decode_sized-encode_lower bytes 32 long h)

@@ -4,7 +4,7 @@ use Rattle.std.specs.Prelude.{replicate}
 use Rattle.hex.specs.Hex.{decode_pairs}
 use Rattle.nr_spec_rules.specs.declared.kind.Kind.{Kind}
 use Rattle.nr_spec_rules.specs.declared.kind.Kind.TheVariants as k
-use Rattle.nr_spec_rules.specs.Figures.{number_of, number_to, address_of, prefix_of, community_of, root_of, cut}
+use Rattle.nr_spec_rules.specs.Figures.{number_of, number_to, address_of, prefix_of, community_of, digest_of, cut}
 use Rattle.nr_spec_rules.specs.Tokens.{Token, same_kind, kind_of}
 use Rattle.nr_rule_syntax.specs.declared.tree.Name.{Name}
 use Rattle.nr_rule_syntax.specs.declared.tree.Form.TheVariants as forms
@@ -40,7 +40,7 @@ prefix_decides = mapped _ (valued_decides k.Prefix prefix_of refl refl (record {
 
 pub root_decides : Decides read.root IsRoot []
 unfolding read.root IsRoot same_kind decode_pairs
-root_decides = mapped _ (valued_decides k.Root root_of refl refl (record { is = replicate 32 0; fine = refl }))
+root_decides = mapped _ (valued_decides k.Root digest_of refl refl (record { is = replicate 32 0; fine = refl }))
 
 pub argument_decides : Decides read.argument IsArgument []
 unfolding read.argument IsArgument same_kind

@@ -7,7 +7,7 @@ use Rattle.nr_spec_bgp.specs.Prefixes.{masked}
 use Rattle.nr_spec_rules.specs.declared.kind.Kind.{Kind}
 use Rattle.nr_spec_rules.specs.declared.kind.Kind.TheVariants as k
 use Rattle.nr_spec_rules.specs.declared.span.Span.{Span}
-use Rattle.nr_spec_rules.specs.Figures.{number_of, address_of, prefix_of, community_of, root_of}
+use Rattle.nr_spec_rules.specs.Figures.{number_of, address_of, prefix_of, community_of, digest_of}
 use Rattle.nr_rule_syntax.specs.declared.tree.Name.{Name}
 use Rattle.nr_rule_syntax.specs.declared.tree.Num.{Num}
 use Rattle.nr_rule_syntax.specs.declared.tree.RootText.{RootText}
@@ -46,7 +46,7 @@ unfoldable pub IsPrefix : StandsFor PrefixText
 IsPrefix = (λ x. record { prefix = masked x.0.0 x.0.1; span = x.1 }) <$> valued k.Prefix prefix_of
 
 unfoldable pub IsRoot : StandsFor RootText
-IsRoot = (λ x. record { digest = record { 0 = x.0 }; span = x.1 }) <$> valued k.Root root_of
+IsRoot = (λ x. record { digest = record { 0 = x.0 }; span = x.1 }) <$> valued k.Root digest_of
 
 -- ---- terms
 

@@ -9,12 +9,12 @@ ghost use Rattle.nr_rule_syntax.specs.Reading.{file_of};
 ghost use Rattle.nr_laws_rules.specs.Refusal.{IsRefusedAt};
 ghost use Rattle.nr_laws_rules.specs.Texts.{IsLongestIn, Spells};
 
-/// The tokens, one behind another with blanks and comments between, are the text.
+/// The tokens, one after another with blanks and comments between, are the text.
 pub fn tokens_spell_the_text()
     ensures { (text : List ℕ) → Spells 0 text (tokens_of text) }
 {}
 
-/// Each word and each figure is a longest run: the byte behind it can't go on with it.
+/// Each word and each figure is a longest run: the byte after it can't go on with it.
 pub fn words_and_figures_are_longest()
     ensures { (text : List ℕ) → All (IsLongestIn text) (tokens_of text) }
 {}

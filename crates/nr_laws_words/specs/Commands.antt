@@ -5,7 +5,8 @@ use Rattle.nr_spec_commands.specs.Words.{Request, Audit, Keygen, Check, audit_gr
 use Rattle.nr_laws_words.specs.Pairs.{Gives}
 
 -- The words are the command word and items, whose values are read as what the command is asked for.
-pub record AsksBy {A : Type 0} (g : Grammar) (read : Values → Option A) (words : List (List ℕ)) (asked : A) : Type 0 where
+pub record AsksBy {A : Type 0} (g : Grammar) (read : Values → Option A) (words : List (List ℕ)) (asked : A)
+    : Type 0 where
   pub others : List (List ℕ)
   pub values : Values
   pub command : words ≡ g.command ∷ others

@@ -10,11 +10,14 @@ ghost use Rattle.nr_laws_words.specs.Pairs.{Gives};
 /// any order, which give these values.
 pub fn words_of_commands_are_pairs()
     ensures audit { (words : List (List ℕ)) (values : Values)
-        → (values_in audit_grammar (audit_grammar.command ∷ words) ≡ Some values) ↔ Gives audit_grammar words values }
+        → (values_in audit_grammar (audit_grammar.command ∷ words) ≡ Some values)
+        ↔ Gives audit_grammar words values }
     ensures keygen { (words : List (List ℕ)) (values : Values)
-        → (values_in keygen_grammar (keygen_grammar.command ∷ words) ≡ Some values) ↔ Gives keygen_grammar words values }
+        → (values_in keygen_grammar (keygen_grammar.command ∷ words) ≡ Some values)
+        ↔ Gives keygen_grammar words values }
     ensures check { (words : List (List ℕ)) (values : Values)
-        → (values_in check_grammar (check_grammar.command ∷ words) ≡ Some values) ↔ Gives check_grammar words values }
+        → (values_in check_grammar (check_grammar.command ∷ words) ≡ Some values)
+        ↔ Gives check_grammar words values }
 {}
 
 /// Words ask for something exactly where they are a command word and its options with their values, which are read

@@ -3,9 +3,7 @@
 #![tactic(auto)]
 
 mod commands;
-mod samples;
 mod words;
 
 pub use commands::{words_are_requests, words_of_commands_are_pairs};
-pub use samples::{words_that_are_not_taken, words_that_are_taken};
 pub use words::{dash_alone_is_plain, words_are_pairs, words_give_once};

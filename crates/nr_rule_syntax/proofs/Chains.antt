@@ -6,12 +6,12 @@ use Rattle.nr_spec_rules.specs.Tokens.{Token, same_kind}
 use Rattle.nr_rule_syntax.specs.declared.fault.ParseError.{ParseError}
 use Rattle.nr_rule_syntax.specs.declared.fault.ParseError.TheVariants.{At, Memory}
 use Rattle.nr_rule_syntax.specs.Views.{Fails}
-use Rattle.nr_spec_rules.specs.Parsing.{Outcome, Parser, and_then, pure, sees, others, behind, following, list, until}
+use Rattle.nr_spec_rules.specs.Parsing.{Outcome, Parser, and_then, pure, sees, others, prepend, following, list, until}
 
 pub record IsLeft {A : Type 0} (between : Kind) (item : Parser A) (front : List A) (ts : List Token) (whole : Outcome (List A)) : Type 0 where
   pub bound : ℕ
   pub enough : length ts ≤ bound
-  pub same : behind front (others between item bound ts) ≡ whole
+  pub same : prepend front (others between item bound ts) ≡ whole
 
 pub left_first : {A : Type 0} {between : Kind} {item : Parser A} (first : A) (ts : List Token) → IsLeft between item (first ∷ []) ts (following first between item ts)
 unfolding following
@@ -22,12 +22,12 @@ unfolding list following
 left_start {A} {between} {item} {x} ts {rest} e =
     record { bound = length rest; enough = omega arith; same = sym (ap (λ (r : Outcome A). and_then r (λ first. following first between item)) e) }
 
-behind_one : {A : Type 0} (front : List A) (x : A) (read : Outcome (List A)) → behind (front ++ x ∷ []) read ≡ behind front (and_then read (λ more. pure (x ∷ more)))
+behind_one : {A : Type 0} (front : List A) (x : A) (read : Outcome (List A)) → prepend (front ++ x ∷ []) read ≡ prepend front (and_then read (λ more. pure (x ∷ more)))
 behind_one front x (Ok p) = let rest : List Token = p.1 in ap (λ l. Ok (l, rest)) (append_assoc front (x ∷ []) p.0)
 behind_one front x (Err e) = refl
 
 more_at : {A : Type 0} (between : Kind) (item : Parser A) (front : List A) (whole : Outcome (List A)) (x : A) (n : ℕ) (ts rest : List Token)
-    → length ts ≤ n → behind front (others between item n ts) ≡ whole → sees between ts ≡ true → length rest < length ts → item (drop 1 ts) ≡ Ok (x, rest)
+    → length ts ≤ n → prepend front (others between item n ts) ≡ whole → sees between ts ≡ true → length rest < length ts → item (drop 1 ts) ≡ Ok (x, rest)
     → IsLeft between item (front ++ x ∷ []) rest whole
 unfolding others
 more_at between item front whole x zero ts rest enough same s shorter e = absurd (omega arith)
@@ -45,7 +45,7 @@ left_more {between = between} {item = item} {front = front} {whole = whole} {x =
     more_at between item front whole x left.bound ts rest left.enough left.same s shorter (sym (ap item n) ∙ e)
 
 refused_at : {A : Type 0} (between : Kind) (item : Parser A) (front : List A) {whole : Outcome (List A)} {p : ℕ} (n : ℕ) (ts : List Token)
-    → length ts ≤ n → behind front (others between item n ts) ≡ whole → sees between ts ≡ true → 0 < length ts → item (drop 1 ts) ≡ Err p → whole ≡ Err p
+    → length ts ≤ n → prepend front (others between item n ts) ≡ whole → sees between ts ≡ true → 0 < length ts → item (drop 1 ts) ≡ Err p → whole ≡ Err p
 unfolding others
 refused_at between item front zero ts enough same s some e = absurd (omega arith)
 refused_at between item front (suc n) ts enough same s some e = sym (rw (s, e) at same)
@@ -61,7 +61,7 @@ pub left_fails : {A : Type 0} {between : Kind} {item : Parser A} {front : List A
 left_fails {between = between} {item = item} {front = front} {whole = whole} {ts = ts} {next = next} left s n some e h = fails_at between item front whole ts next left s n some e h
 
 done_at : {A : Type 0} (between : Kind) (item : Parser A) (front : List A) {whole : Outcome (List A)} (n : ℕ) (ts : List Token)
-    → behind front (others between item n ts) ≡ whole → sees between ts ≡ false → whole ≡ Ok (front, ts)
+    → prepend front (others between item n ts) ≡ whole → sees between ts ≡ false → whole ≡ Ok (front, ts)
 unfolding others
 done_at between item front zero ts same s = sym same ∙ ap (λ l. Ok (l, ts)) (append-nil front)
 done_at between item front (suc n) ts same s = sym (rw s at same) ∙ ap (λ l. Ok (l, ts)) (append-nil front)
@@ -79,9 +79,9 @@ deeper f n some = let e : n ≡ suc (n - 1) = omega arith in ap f e
 pub record IsLeftUntil {A : Type 0} (last : Kind) (item : Parser A) (front : List A) (ts : List Token) (whole : Outcome (List A)) : Type 0 where
   pub bound : ℕ
   pub enough : length ts ≤ bound
-  pub same : behind front (until last item bound ts) ≡ whole
+  pub same : prepend front (until last item bound ts) ≡ whole
 
-behind_none : {A : Type 0} (read : Outcome (List A)) → behind [] read ≡ read
+behind_none : {A : Type 0} (read : Outcome (List A)) → prepend [] read ≡ read
 behind_none (Ok p) = refl
 behind_none (Err e) = refl
 
@@ -89,7 +89,7 @@ pub until_start : {A : Type 0} {last : Kind} {item : Parser A} (ts : List Token)
 until_start {last = last} {item = item} ts = record { bound = length ts; enough = omega arith; same = behind_none (until last item (length ts) ts) }
 
 until_more_at : {A : Type 0} (last : Kind) (item : Parser A) (front : List A) (whole : Outcome (List A)) (x : A) (n : ℕ) (ts rest : List Token)
-    → length ts ≤ n → behind front (until last item n ts) ≡ whole → sees last ts ≡ false → length rest < length ts → item ts ≡ Ok (x, rest)
+    → length ts ≤ n → prepend front (until last item n ts) ≡ whole → sees last ts ≡ false → length rest < length ts → item ts ≡ Ok (x, rest)
     → IsLeftUntil last item (front ++ x ∷ []) rest whole
 unfolding until
 until_more_at last item front whole x zero ts rest enough same s shorter e = absurd (omega arith)
@@ -106,7 +106,7 @@ until_more {last = last} {item = item} {front = front} {whole = whole} {x = x} {
     until_more_at last item front whole x left.bound ts rest left.enough left.same s shorter e
 
 until_refused : {A : Type 0} (last : Kind) (item : Parser A) (front : List A) {whole : Outcome (List A)} {p : ℕ} (n : ℕ) (ts : List Token)
-    → length ts ≤ n → behind front (until last item n ts) ≡ whole → sees last ts ≡ false → 0 < length ts → item ts ≡ Err p → whole ≡ Err p
+    → length ts ≤ n → prepend front (until last item n ts) ≡ whole → sees last ts ≡ false → 0 < length ts → item ts ≡ Err p → whole ≡ Err p
 unfolding until
 until_refused last item front zero ts enough same s some e = absurd (omega arith)
 until_refused last item front (suc n) ts enough same s some e = sym (rw (s, e) at same)
@@ -127,7 +127,7 @@ pub until_fails : {A : Type 0} {item : Parser A} {front : List A} {whole : Outco
 until_fails {item = item} {front = front} {whole = whole} {ts = ts} left s e h = until_fails_at item front whole ts left s e h
 
 until_done_at : {A : Type 0} (last : Kind) (item : Parser A) (front : List A) {whole : Outcome (List A)} (n : ℕ) (ts : List Token)
-    → behind front (until last item n ts) ≡ whole → sees last ts ≡ true → whole ≡ Ok (front, ts)
+    → prepend front (until last item n ts) ≡ whole → sees last ts ≡ true → whole ≡ Ok (front, ts)
 unfolding until
 until_done_at last item front zero ts same s = sym same ∙ ap (λ l. Ok (l, ts)) (append-nil front)
 until_done_at last item front (suc n) ts same s = sym (rw s at same) ∙ ap (λ l. Ok (l, ts)) (append-nil front)

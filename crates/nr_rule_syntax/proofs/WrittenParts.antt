@@ -1,7 +1,7 @@
 -- What is read is written as it should be: names, numbers, terms and lists.
 use Rattle.std.proofs.Common.{◌≡◌, ℕ, ◌+◌, ◌*◌, ◌<◌, ◌≤◌, Bool, true, false, ◌&&◌, cond, leb, List, [], ◌∷◌, length, Option, Some, None, Result, Ok, Err, refl, sym, subst, ◌∙◌, arith}
 use Rattle.nr_spec_rules.specs.declared.kind.Kind.TheVariants as k
-use Rattle.nr_spec_rules.specs.Figures.{number_to, number_of, address_of, prefix_of, community_of, root_of, cut}
+use Rattle.nr_spec_rules.specs.Figures.{number_to, number_of, address_of, prefix_of, community_of, digest_of, cut}
 use Rattle.nr_spec_rules.specs.Figures as figures
 use Rattle.nr_spec_bgp.specs.Prefixes.{masked, IsCidr}
 use Rattle.nr_prefix.proofs.Masking.{masked_is_cidr}
@@ -80,7 +80,7 @@ read_of : (r : Result (List ℕ) FromHexError) (bytes : List ℕ) → result_ok 
 read_of (Ok x) bytes e = cc
 read_of (Err x) bytes e = absurd cc
 
-root_fits : (text bytes : List ℕ) → root_of text ≡ Some bytes → (length bytes ≡ 32) × IsBytes bytes
+root_fits : (text bytes : List ℕ) → digest_of text ≡ Some bytes → (length bytes ≡ 32) × IsBytes bytes
 root_fits [] bytes e = absurd cc
 root_fits (mark ∷ digits) bytes e =
     let read = read_of (decode_sized digits 32) bytes e in
@@ -112,7 +112,7 @@ yields_prefix = yields_map _ (yields_valued k.Prefix prefix_of prefix_fits) (λ 
 
 pub yields_root : Yields IsRoot spec.root
 unfolding spec.root
-yields_root = yields_map _ (yields_valued k.Root root_of root_fits) (λ x h. h)
+yields_root = yields_map _ (yields_valued k.Root digest_of root_fits) (λ x h. h)
 
 pub yields_argument : Yields IsName spec.argument
 unfolding spec.argument

@@ -7,7 +7,7 @@ use Rattle.nr_spec_rules.specs.declared.kind.Kind.{Kind}
 use Rattle.nr_spec_rules.specs.declared.kind.Kind.TheVariants as k
 use Rattle.nr_spec_rules.specs.declared.span.Span.{Span}
 use Rattle.nr_spec_rules.specs.Tokens.{Token, same_kind, kind_of, text_of, span_of, place_of}
-use Rattle.nr_spec_rules.specs.Parsing.{Outcome, Parser, and_then, ◌>>=◌, ◌<$>◌, pure, refuse, sees, expect, found, valued, others, behind, following, list, chain, until}
+use Rattle.nr_spec_rules.specs.Parsing.{Outcome, Parser, and_then, ◌>>=◌, ◌<$>◌, pure, refuse, sees, expect, found, valued, others, prepend, following, list, chain, until}
 use Rattle.nr_rule_syntax.specs.Written.{is_name_word}
 
 -- a token of a text: where it is a name, its bytes are those of a name
@@ -158,7 +158,7 @@ yields_list between y = yields_then y (λ first q. yields_following first betwee
 
 -- one more, where its token comes next
 two_at : {A : Type 0} {Q : A → Type 0} {item : Parser A} (first : A) (between : Kind) → Q first → Yields Q item → (n : ℕ) (b : Bool) → b ≡ true → (ts : List Token) (xs : List A) (rest : List Token)
-    → AreProper ts → behind (first ∷ []) (cond b ((item >>= (λ x. others between item n >>= (λ more. pure (x ∷ more)))) (drop 1 ts)) (Ok ([], ts))) ≡ Ok (xs, rest)
+    → AreProper ts → prepend (first ∷ []) (cond b ((item >>= (λ x. others between item n >>= (λ more. pure (x ∷ more)))) (drop 1 ts)) (Ok ([], ts))) ≡ Ok (xs, rest)
     → ((2 ≤ length xs) × AllOf Q xs) × AreProper rest
 two_at first between q y n false is ts xs rest proper e = absurd cc
 two_at {A = A} {Q = Q} {item = item} first between q y n true is ts xs rest proper e =

@@ -21,7 +21,7 @@ use Rattle.nr_rule_syntax.specs.declared.tree.Term.TheVariants as terms
 use Rattle.nr_rule_syntax.specs.declared.tree.Cmp.{Cmp}
 use Rattle.nr_rule_syntax.specs.declared.tree.Cmp.TheVariants as cmps
 
--- pieces of a text, one behind another
+-- pieces of a text, one after another
 abbrev pub spelled : List (List ℕ) → List ℕ
 spelled [] = []
 spelled (piece ∷ pieces) = piece ++ spelled pieces
@@ -160,7 +160,7 @@ places_text (first ∷ more) =
 abbrev pub numbered_text : List ℕ → ℕ → List ℕ
 numbered_text word n = spelled (word ∷ decimal n ∷ codes ";\n" ∷ [])
 
--- a word, a name, and a word behind it
+-- a word, a name, and a word after it
 abbrev pub head_text : List ℕ → Name → List ℕ → List ℕ
 head_text word name behind = spelled (word ∷ name.word ∷ behind ∷ [])
 

@@ -6,7 +6,7 @@ use Rattle.nr_spec_bgp.specs.Prefixes.{masked}
 use Rattle.nr_spec_rules.specs.declared.kind.Kind.{Kind}
 use Rattle.nr_spec_rules.specs.declared.kind.Kind.TheVariants as k
 use Rattle.nr_spec_rules.specs.declared.span.Span.{Span}
-use Rattle.nr_spec_rules.specs.Figures.{number_of, address_of, prefix_of, community_of, root_of}
+use Rattle.nr_spec_rules.specs.Figures.{number_of, address_of, prefix_of, community_of, digest_of}
 use Rattle.nr_spec_rules.specs.Tokens.{kind_of, place_of, tokens_of}
 use Rattle.nr_spec_rules.specs.Parsing.{Outcome, Parser, ◌>>=◌, ◌>>◌, ◌<$>◌, pure, refuse, passed, sees, expect, valued, list, chain, until}
 use Rattle.nr_rule_syntax.specs.declared.tree.Name.{Name}
@@ -46,7 +46,7 @@ unfoldable pub prefix : Parser PrefixText
 prefix = (λ x. record { prefix = masked x.0.0 x.0.1; span = x.1 }) <$> valued k.Prefix prefix_of
 
 unfoldable pub root : Parser RootText
-root = (λ x. record { digest = record { 0 = x.0 }; span = x.1 }) <$> valued k.Root root_of
+root = (λ x. record { digest = record { 0 = x.0 }; span = x.1 }) <$> valued k.Root digest_of
 
 -- `( NAME )`
 unfoldable pub argument : Parser Name
@@ -112,7 +112,7 @@ about_by var k.Crosses = passed >> (λ t. forms.Crosses var t) <$> term
 about_by var k.Is = passed >> (λ right. forms.Is var right) <$> name
 about_by var _ = refuse
 
--- `has COMMUNITY`, `crosses Term` or `is NAME`, behind a name
+-- `has COMMUNITY`, `crosses Term` or `is NAME`, after a name
 unfoldable pub about : Name → Parser Form
 about var = λ ts. about_by var (kind_of ts) ts
 
@@ -141,7 +141,7 @@ parenthesized levels inside = do
   close ← expect k.CloseParen
   pure held
 
--- behind `all` or `some`: `NAME in NAME { Form }`
+-- after `all` or `some`: `NAME in NAME { Form }`
 unfoldable pub over_group : ℕ → Inside → Parser (Name × Name × Form)
 over_group levels inside = do
   opened ← opens levels
@@ -216,7 +216,7 @@ formula levels inside = do
       then (opens levels >> (λ right. forms.Implies left right) <$> inside Whole) ts
       else Ok (left, ts))
 
--- what stands behind a token that opens a level: a formula, or behind `not` a member of a chain
+-- what stands after a token that opens a level: a formula, or after `not` a member of a chain
 unfoldable pub inside : ℕ → Level → Parser Form
 inside zero level = refuse
 inside (suc levels) Whole = formula levels (inside levels)

@@ -5,7 +5,7 @@ use Rattle.nr_spec_rules.specs.Parsing.{Outcome}
 use Rattle.nr_rule_syntax.specs.declared.fault.ParseError.{ParseError}
 use Rattle.nr_rule_syntax.specs.declared.fault.ParseError.TheVariants.{At, Memory}
 
--- A result is what reading gives, and the tokens behind it, or the place of its refusal. Want of memory says
+-- A result is what reading gives, and the tokens after it, or the place of its refusal. Want of memory says
 -- nothing.
 abbrev pub Fails : {A : Type 0} → Result A ℕ → ParseError → Type 0
 Fails read (At place) = read ≡ Err place.0

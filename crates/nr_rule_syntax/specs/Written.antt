@@ -21,7 +21,7 @@ use Rattle.nr_rule_syntax.specs.declared.tree.Form.TheFolds.{fold-Form}
 use Rattle.nr_rule_syntax.specs.declared.tree.Term.{Term}
 use Rattle.nr_rule_syntax.specs.declared.tree.Term.TheVariants as terms
 
--- a letter, and letters, digits and `_` behind it
+-- a letter, and letters, digits and `_` after it
 abbrev pub is_word : List ℕ → Bool
 is_word [] = false
 is_word (b ∷ more) = is_ascii_alphabetic b && list_all in_word (b ∷ more)

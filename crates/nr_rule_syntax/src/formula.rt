@@ -22,12 +22,12 @@ use std::alloc::Global;
 /// How many levels of nesting may be open at a place.
 const MOST_LEVELS: usize = 64;
 
-/// What stands behind a token that opens a level of nesting.
+/// What stands after a token that opens a level of nesting.
 #[derive(Clone, Copy, Debug)]
 pub enum Level {
     /// A formula.
     Whole,
-    /// A member of a chain, as stands behind `not`.
+    /// A member of a chain, as stands after `not`.
     Member,
 }
 
@@ -76,7 +76,8 @@ impl<F: Fn(Global, &mut Tokens<'_>, usize, Level) -> Result<Form, ParseError>> G
     fn parenthesized(&self, tokens: &mut Tokens<'_>) -> Result<Form, ParseError>
         requires nests { Nests self.now.levels (F.pre self.now.inside) (F.post self.now.inside) }
         requires more { goes_on (kind_of tokens.old) ≡ true }
-        ensures value { Reads (spec.parenthesized self.now.levels (spec.inside self.now.levels) tokens.old) result tokens.new }
+        ensures value { Reads (spec.parenthesized self.now.levels (spec.inside self.now.levels) tokens.old)
+            result tokens.new }
         ensures nests { IfOk result (λ form. depth_within 3 form ≤ self.now.levels) }
         ensures onward { AreNoMore tokens.old tokens.new }
     {
@@ -91,7 +92,8 @@ impl<F: Fn(Global, &mut Tokens<'_>, usize, Level) -> Result<Form, ParseError>> G
     fn over_group(&self, tokens: &mut Tokens<'_>) -> Result<(Name, Name, Boxed<Form>), ParseError>
         requires nests { Nests self.now.levels (F.pre self.now.inside) (F.post self.now.inside) }
         requires more { goes_on (kind_of tokens.old) ≡ true }
-        ensures value { Reads (spec.over_group self.now.levels (spec.inside self.now.levels) tokens.old) result tokens.new }
+        ensures value { Reads (spec.over_group self.now.levels (spec.inside self.now.levels) tokens.old)
+            result tokens.new }
         ensures nests { IfOk result (λ x. depth x.2 < self.now.levels) }
         ensures onward { AreNoMore tokens.old tokens.new }
     {
@@ -105,7 +107,7 @@ impl<F: Fn(Global, &mut Tokens<'_>, usize, Level) -> Result<Form, ParseError>> G
         Ok((var, group, held))
     }
 
-    // Behind `if`: the variable, and the route that it stands for.
+    // After `if`: the variable, and the route that it stands for.
     #[tactic(auto, unfolding(crate::specs::Reading::bound))]
     fn bound(&self, tokens: &mut Tokens<'_>) -> Result<(Name, (Side, Name)), ParseError>
         requires { goes_on (kind_of tokens.old) ≡ true }
@@ -120,7 +122,7 @@ impl<F: Fn(Global, &mut Tokens<'_>, usize, Level) -> Result<Form, ParseError>> G
         Ok((var, from))
     }
 
-    // The part behind `then`, and that behind `else`.
+    // The part after `then`, and that after `else`.
     #[tactic(auto, unfolding(crate::specs::Reading::branches))]
     fn branches(&self, tokens: &mut Tokens<'_>) -> Result<(Boxed<Form>, Boxed<Form>), ParseError>
         requires { Nests self.now.levels (F.pre self.now.inside) (F.post self.now.inside) }
@@ -139,7 +141,8 @@ impl<F: Fn(Global, &mut Tokens<'_>, usize, Level) -> Result<Form, ParseError>> G
     fn conditional(&self, tokens: &mut Tokens<'_>) -> Result<Form, ParseError>
         requires nests { Nests self.now.levels (F.pre self.now.inside) (F.post self.now.inside) }
         requires more { goes_on (kind_of tokens.old) ≡ true }
-        ensures value { Reads (spec.conditional self.now.levels (spec.inside self.now.levels) tokens.old) result tokens.new }
+        ensures value { Reads (spec.conditional self.now.levels (spec.inside self.now.levels) tokens.old)
+            result tokens.new }
         ensures nests { IfOk result (λ form. depth_within 3 form ≤ self.now.levels) }
         ensures onward { AreNoMore tokens.old tokens.new }
     {
@@ -196,7 +199,8 @@ impl<F: Fn(Global, &mut Tokens<'_>, usize, Level) -> Result<Form, ParseError>> G
     #[tactic(auto, unfolding(crate::specs::Reading::negation))]
     fn negation(&self, tokens: &mut Tokens<'_>) -> Result<Form, ParseError>
         requires { Nests self.now.levels (F.pre self.now.inside) (F.post self.now.inside) }
-        ensures value { Reads (spec.negation self.now.levels (spec.inside self.now.levels) tokens.old) result tokens.new }
+        ensures value { Reads (spec.negation self.now.levels (spec.inside self.now.levels) tokens.old)
+            result tokens.new }
         ensures nests { IfOk result (λ form. depth_within 3 form ≤ self.now.levels) }
         ensures onward { AreNoMore tokens.old tokens.new }
     {
@@ -229,7 +233,8 @@ impl<F: Fn(Global, &mut Tokens<'_>, usize, Level) -> Result<Form, ParseError>> G
     #[tactic(auto, unfolding(nr_spec_rules::specs::Parsing::chain, crate::specs::Reading::conjunction))]
     fn conjunction(&self, tokens: &mut Tokens<'_>) -> Result<Form, ParseError>
         requires { Nests self.now.levels (F.pre self.now.inside) (F.post self.now.inside) }
-        ensures value { Reads (spec.conjunction self.now.levels (spec.inside self.now.levels) tokens.old) result tokens.new }
+        ensures value { Reads (spec.conjunction self.now.levels (spec.inside self.now.levels) tokens.old)
+            result tokens.new }
         ensures nests { IfOk result (λ form. depth_within 2 form ≤ self.now.levels) }
         ensures onward { AreNoMore tokens.old tokens.new }
     {
@@ -262,7 +267,8 @@ impl<F: Fn(Global, &mut Tokens<'_>, usize, Level) -> Result<Form, ParseError>> G
     #[tactic(auto, unfolding(nr_spec_rules::specs::Parsing::chain, crate::specs::Reading::disjunction))]
     fn disjunction(&self, tokens: &mut Tokens<'_>) -> Result<Form, ParseError>
         requires { Nests self.now.levels (F.pre self.now.inside) (F.post self.now.inside) }
-        ensures value { Reads (spec.disjunction self.now.levels (spec.inside self.now.levels) tokens.old) result tokens.new }
+        ensures value { Reads (spec.disjunction self.now.levels (spec.inside self.now.levels) tokens.old)
+            result tokens.new }
         ensures nests { IfOk result (λ form. depth_within 1 form ≤ self.now.levels) }
         ensures onward { AreNoMore tokens.old tokens.new }
     {
@@ -276,7 +282,8 @@ impl<F: Fn(Global, &mut Tokens<'_>, usize, Level) -> Result<Form, ParseError>> G
     #[tactic(auto, unfolding(crate::specs::Reading::formula))]
     fn formula(&self, tokens: &mut Tokens<'_>) -> Result<Form, ParseError>
         requires { Nests self.now.levels (F.pre self.now.inside) (F.post self.now.inside) }
-        ensures value { Reads (spec.formula self.now.levels (spec.inside self.now.levels) tokens.old) result tokens.new }
+        ensures value { Reads (spec.formula self.now.levels (spec.inside self.now.levels) tokens.old)
+            result tokens.new }
         ensures nests { IfOk result (λ form. depth form ≤ self.now.levels) }
         ensures onward { AreNoMore tokens.old tokens.new }
     {

@@ -11,7 +11,7 @@ use crate::tree::{Decl, File, Name, PatternText, PrefixText};
 use nr_bytes::{Memory, put_bytes};
 use std::alloc::Global;
 
-// The names behind the first.
+// The names after the first.
 fn put_more_names(out: &mut Vec<u8>, names: &[Name]) -> Result<(), Memory>
     ensures { OnOk result
         (out.new.items ≡ out.old.items ++ spec.each_behind (codes ", ") (map spec.name_text (drop 1 names.now))) }
@@ -35,7 +35,7 @@ fn put_names(out: &mut Vec<u8>, names: &[Name]) -> Result<(), Memory>
     }
 }
 
-// The patterns behind the first.
+// The patterns after the first.
 fn put_more_patterns(out: &mut Vec<u8>, patterns: &[PatternText]) -> Result<(), Memory>
     ensures { OnOk result
         (out.new.items ≡ out.old.items ++ spec.each_behind (codes ", ") (map spec.pattern_text (drop 1 patterns.now))) }
@@ -66,7 +66,7 @@ fn put_prefix(out: &mut Vec<u8>, place: &PrefixText) -> Result<(), Memory>
     place.prefix.write(out)
 }
 
-// The prefixes behind the first.
+// The prefixes after the first.
 fn put_more_prefixes(out: &mut Vec<u8>, places: &[PrefixText]) -> Result<(), Memory>
     ensures { OnOk result
         (out.new.items ≡ out.old.items ++ spec.each_behind (codes ", ") (map spec.prefix_text (drop 1 places.now))) }
@@ -100,7 +100,7 @@ fn put_numbered(out: &mut Vec<u8>, word: &[u8], n: u32) -> Result<(), Memory>
     put_bytes(out, b";\n")
 }
 
-// A word, a name, and a word behind it.
+// A word, a name, and a word after it.
 fn put_head(out: &mut Vec<u8>, word: &[u8], name: &Name, behind: &[u8]) -> Result<(), Memory>
     ensures { OnOk result (out.new.items ≡ out.old.items ++ spec.head_text word.now name.now behind.now) }
 {

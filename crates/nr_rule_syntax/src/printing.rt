@@ -32,7 +32,7 @@ fn put_within(out: &mut Vec<u8>, form: &Form, least: u8) -> Result<(), Memory>
     put_bytes(out, b")")
 }
 
-// The members of an `and` or `or` behind the first.
+// The members of an `and` or `or` after the first.
 #[cycle(print)]
 fn put_more(out: &mut Vec<u8>, members: &[Form], between: &[u8], least: u8) -> Result<(), Memory>
     ensures { OnOk result (out.new.items

@@ -111,7 +111,7 @@ pub fn route(alloc: Global, tokens: &mut Tokens<'_>) -> Result<(Side, Name), Par
     }
 }
 
-/// `has COMMUNITY`, `crosses Term` or `is NAME`, behind a name.
+/// `has COMMUNITY`, `crosses Term` or `is NAME`, after a name.
 #[tactic(auto, unfolding(crate::specs::Reading::about))]
 pub fn about(alloc: Global, tokens: &mut Tokens<'_>, var: Name) -> Result<Form, ParseError>
     ensures value { Reads (spec.about var tokens.old) result tokens.new }

@@ -50,7 +50,7 @@ fn place_of(byte: u8, text: &[u8]) -> Option<usize>
     text.iter().position(|b| *b == byte)
 }
 
-// What stands before the first such byte, and what behind it.
+// What stands before the first such byte, and what after it.
 #[tactic(auto, unfolding(nr_spec_rules::specs::Figures::cut))]
 fn cut(byte: u8, text: &[u8]) -> Option<(&[u8], &[u8])>
     ensures { parts_of result ≡ spec.cut byte text.now }
@@ -107,7 +107,7 @@ pub fn community(text: &[u8]) -> Option<u32>
 
 /// `#` and 64 hexadecimal digits, as 32 bytes.
 pub fn root(text: &[u8]) -> Option<[u8; 32]>
-    ensures { result ≡ spec.root_of text.now }
+    ensures { result ≡ spec.digest_of text.now }
 {
     match text {
         [] => None,

@@ -29,7 +29,7 @@ impl<'a> Model for Tokens<'a> {
     ghost invariant = { λ t. t.from + length t.text.now + length t.behind.now < 2 ^ 32 };
 }
 
-// The first token of the text from this offset on, behind blanks and comments.
+// The first token of the text from this offset on, after blanks and comments.
 fn first(mut from: u32, mut text: &[u8]) -> Tokens<'_>
     requires { from + length text.now < 2 ^ 32 }
     ensures { result ≡ spec.tokens_at from text.entry.now }

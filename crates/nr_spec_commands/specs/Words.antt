@@ -24,7 +24,8 @@ abbrev pub is_decimal : List ℕ → Bool
 is_decimal word = nat_le 1 (length word) && (nat_le (length word) 19 && all_ascii_digits word)
 
 abbrev pub number_in : List ℕ → Option ℕ
-number_in word = if is_decimal word && nat_le (digits_value 10 word) most_number then Some (digits_value 10 word) else None
+number_in word =
+    if is_decimal word && nat_le (digits_value 10 word) most_number then Some (digits_value 10 word) else None
 
 -- from one number to another that isn't below it
 abbrev pub period_between : ℕ → ℕ → Option Period

@@ -37,7 +37,7 @@ outcome root network answer period auths =
 
 -- ---- text
 
--- words with one space between them, and one LF behind the last
+-- words with one space between them, and one LF after the last
 abbrev pub line : List (List ℕ) → List ℕ
 line [] = 10 ∷ []
 line (word ∷ []) = word ++ 10 ∷ []

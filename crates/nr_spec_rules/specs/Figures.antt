@@ -11,7 +11,7 @@ abbrev pub ◌>>=◌ : {A B : Type 0} → Option A → (A → Option B) → Opti
 None >>= f = None
 (Some x) >>= f = f x
 
--- what decimal digits are worth, the highest first, behind digits that are worth n
+-- what decimal digits are worth, the highest first, after digits that are worth n
 abbrev pub worth_from : ℕ → List ℕ → ℕ
 worth_from n [] = n
 worth_from n (d ∷ ds) = worth_from (10 * n + (d - 48)) ds
@@ -25,7 +25,7 @@ is_numeral (d ∷ ds) = list_all is_ascii_digit (d ∷ ds) && (not (d == 48) || 
 unfoldable pub number_to : ℕ → List ℕ → Option ℕ
 number_to most text = if is_numeral text && nat_le (worth_from 0 text) most then Some (worth_from 0 text) else None
 
--- what stands before the first such byte, and what behind it
+-- what stands before the first such byte, and what after it
 unfoldable pub cut : ℕ → List ℕ → Option (List ℕ × List ℕ)
 cut byte text = do
   at ← position (λ b. b == byte) text
@@ -64,6 +64,6 @@ community_of text = do
   Some (high * 65536 + low)
 
 -- `#` and 64 hexadecimal digits, as 32 bytes
-abbrev pub root_of : List ℕ → Option (List ℕ)
-root_of [] = None
-root_of (mark ∷ digits) = result_ok (decode_sized digits 32)
+abbrev pub digest_of : List ℕ → Option (List ℕ)
+digest_of [] = None
+digest_of (mark ∷ digits) = result_ok (decode_sized digits 32)

@@ -4,7 +4,7 @@ use Rattle.nr_spec_rules.specs.declared.kind.Kind.{Kind}
 use Rattle.nr_spec_rules.specs.declared.span.Span.{Span}
 use Rattle.nr_spec_rules.specs.Tokens.{Token, same_kind, kind_of, place_of, text_of, span_of}
 
--- what was read and the tokens behind it, or the place of the refused token
+-- what was read and the tokens after it, or the place of the refused token
 abbrev pub Outcome : Type 0 → Type 0
 Outcome A = Result (A × List Token) ℕ
 
@@ -68,13 +68,13 @@ others between item (suc n) = λ ts.
       pure (first ∷ more)) (drop 1 ts)
     else Ok ([], ts)
 
--- what was read stands behind these
-abbrev pub behind : {A : Type 0} → List A → Outcome (List A) → Outcome (List A)
-behind front read = and_then read (λ more. pure (front ++ more))
+-- these, and after them what was read
+abbrev pub prepend : {A : Type 0} → List A → Outcome (List A) → Outcome (List A)
+prepend front read = and_then read (λ more. pure (front ++ more))
 
 -- a list that begins with this one. Each further one takes a token, so the number of tokens is bound enough.
 unfoldable pub following : {A : Type 0} → A → Kind → Parser A → Parser (List A)
-following first between item = λ ts. behind (first ∷ []) (others between item (length ts) ts)
+following first between item = λ ts. prepend (first ∷ []) (others between item (length ts) ts)
 
 -- one or more, with a token of this kind between
 unfoldable pub list : {A : Type 0} → Kind → Parser A → Parser (List A)

@@ -106,13 +106,13 @@ piece_of (b ∷ behind) =
 
 -- ---- tokens
 
--- whether tokens may stand behind one of this kind
+-- whether tokens may stand after one of this kind
 abbrev pub goes_on : Kind → Bool
 goes_on k.End = false
 goes_on k.Fault = false
 goes_on _ = true
 
--- a token, and what is read behind it
+-- a token, and what is read after it
 abbrev pub with_token : Kind → ℕ → ℕ → List ℕ → (ℕ → List Token) → List Token
 with_token kind width at text behind =
     record { kind = kind; from = at; text = take width text } ∷ (if goes_on kind then behind (width - 1) else [])

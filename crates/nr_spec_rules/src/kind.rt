@@ -71,7 +71,7 @@ pub enum Kind {
     Root,
     /// The end of the text.
     End,
-    /// What begins no token. No token stands behind it.
+    /// What begins no token. No token stands after it.
     Fault,
 }
 

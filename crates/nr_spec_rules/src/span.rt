@@ -1,4 +1,4 @@
-/// Where a piece of the text stands: from its first byte up to the byte behind its last, as offsets.
+/// Where a piece of the text stands: from its first byte up to the byte after its last, as offsets.
 #[derive(Clone, Copy, Debug, PartialEq, Eq)]
 pub struct Span {
     pub from: u32,

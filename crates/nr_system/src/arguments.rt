@@ -14,7 +14,7 @@ pub enum NoWords {
     System,
 }
 
-/// The words behind the program's name. Where one isn't UTF-8 there are none: no command has such a word.
+/// The words after the program's name. Where one isn't UTF-8 there are none: no command has such a word.
 pub fn words<R: Env + AllocGlobal>(rt: &R) -> Result<Vec<String>, NoWords> {
     match every_word(rt) {
         Ok(words) => Ok(words),

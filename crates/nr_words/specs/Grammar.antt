@@ -38,7 +38,8 @@ rules_for g = map option_rule g.options ++ (if g.files then files_rule ∷ [] el
 
 -- a command of these arguments, without options for help and for a version
 abbrev pub app_with : List ℕ → List Rule → App
-app_with command rules = on_top (λ s. record s { rules = rules; disable_help_flag = true; disable_version_flag = true }) (new_app command)
+app_with command rules =
+    on_top (λ s. record s { rules = rules; disable_help_flag = true; disable_version_flag = true }) (new_app command)
 
 abbrev pub app_for : Grammar → App
 app_for g = app_with g.command (rules_for g)

@@ -59,7 +59,7 @@ fn values_from<'a>(
     })
 }
 
-/// What the words of a command give. They are all words behind the program's name, the command word first.
+/// What the words of a command give. They are all words after the program's name, the command word first.
 /// `None` exactly where the command doesn't take them.
 pub fn values_of<'a>(
     alloc: Global,
