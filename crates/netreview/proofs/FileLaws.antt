@@ -3,30 +3,23 @@ use Rattle.std.proofs.Common.{◌≡◌, ◌≢◌, ℕ, ◌≤◌, List, [], �
 use Rattle.std.specs.Prelude.{option_map}
 use Rattle.nr_spec_plans.specs.Disk as disk
 use Rattle.nr_spec_plans.specs.Plans.{Done, Room, Halt, Refused, Faulted, Runs, followed_by, ◌>>=◌, want, save, Action, Ask, Read, Cut, Write, Sync, Refuse, Act, Plan}
-use Rattle.nr_spec_plans.specs.Laws.{Each, IsRead, Unchanged, CountsOne, fault_in, outcome, Spares, Kept, Gives, Touches, IsAmong, IsLeftBy}
+use Rattle.nr_spec_plans.specs.Laws.{Each, IsRead, Unchanged, CountsOne, fault_in, outcome, Spares, Kept, Saved, Gives, Touches, IsAmong, IsLeftBy, reads_after, writes_after}
+use Rattle.nr_spec_plans.specs.Steps.{DoneBy}
+use Rattle.nr_spec_plans.proofs.StepLaws.{done_by, done_only, each_as, touches_reads, touches_spares}
 use Rattle.nr_spec_plans.proofs.PlanLaws.{writes_nothing, counts_one, taken_apart, saved, gives_outcome, spares_others}
 use Rattle.nr_spec_plans.proofs.SaveLaws.{save_stops, save_leaves, reads_alone, outcome_goes, outcome_stops}
 use Rattle.nr_spec_history.specs.KeyFiles.{Key, key_file}
 use Rattle.nr_spec_commands.specs.Words.{AuditRequest, CheckRequest, KeygenRequest, Request, Audit, Check, Keygen, request_in}
 use Rattle.netreview.specs.Command.{Work, Ending, Refusal, refusal_ending, fault_ending, key_plan, keygen_plan, plan_of, plan_in, plan_for, key_ending}
-use Rattle.netreview.specs.Running.{RunsTo, Concludes}
-use Rattle.netreview.specs.Causes.{Left, EndsBy, ended, OnlyTheSinkFails, read_names, written_names}
+use Rattle.netreview.specs.Running.{RunsTo, Concludes, Answers}
+use Rattle.netreview.specs.Causes.{Answered, EndsAs, EndsBy, LeavesFiles, NoneRose, OnlyTheSinkFails, SavesKey, WroteNothing, ended, read_in, read_names, written_in, written_names}
 use Rattle.netreview.proofs.PlanKinds.{KindReads, audit_each, check_each, key_each, keygen_each, refusal_status}
-use Rattle.netreview.proofs.StatusLaws.{ending_says, sink_alone, still_writes}
+use Rattle.netreview.proofs.StatusLaws.{ending_says, sink_alone, still_writes, answered_so, own_status}
 
 -- ---- kinds of steps
 
-is_read : (name : List ℕ) → KindReads IsRead name
-is_read name = record { ask = tt; read = λ size. tt }
-
-audit_is_read : (q : AuditRequest) → Each IsRead (plan_of (Audit q))
-audit_is_read q = audit_each IsRead q (is_read q.promise) (is_read q.answer) (is_read q.auths)
-
-check_is_read : (q : CheckRequest) → Each IsRead (plan_of (Check q))
-check_is_read q = check_each IsRead q (is_read q.promise)
-
 key_is_read : (q : KeygenRequest) → Each IsRead (key_plan q)
-key_is_read q = key_each IsRead q (is_read q.seed)
+key_is_read q = key_each IsRead q (record { ask = tt; read = λ size. tt })
 
 touches : (read written : List (List ℕ)) (name : List ℕ) → IsAmong name read → KindReads (Touches read written) name
 touches read written name is = record { ask = is; read = λ size. is }
@@ -41,8 +34,19 @@ touches_named (Keygen q) =
     keygen_each (Touches (read_names (Keygen q)) (written_names (Keygen q))) q (touches (read_names (Keygen q)) (written_names (Keygen q)) q.seed (inl refl)) (inl refl) (λ bytes. inl refl) (inl refl)
 touches_named (Check q) = check_each (Touches (read_names (Check q)) (written_names (Check q))) q (touches (read_names (Check q)) (written_names (Check q)) q.promise (inl refl))
 
-keygen_spares : (q : KeygenRequest) (other : List ℕ) → other ≢ q.key → Each (Spares other) (plan_of (Keygen q))
-keygen_spares q other ne = keygen_each (Spares other) q (record { ask = tt; read = λ size. tt }) ne (λ bytes. ne) ne
+-- what the words name
+pub touches_in : (request : Option Request) → Each (Touches (read_in request) (written_in request)) (plan_in request)
+touches_in None = tt
+touches_in (Some request) = touches_named request
+
+reads_in : (request : Option Request) → written_in request ≡ [] → Each IsRead (plan_in request)
+reads_in request none =
+    each_as (Touches (read_in request) []) IsRead (touches_reads (read_in request)) (plan_in request)
+    (subst (λ (written : List (List ℕ)). Each (Touches (read_in request) written) (plan_in request)) none (touches_in request))
+
+spares_in : (request : Option Request) (other : List ℕ) → (IsAmong other (written_in request) → ⊥) → Each (Spares other) (plan_in request)
+spares_in request other spared =
+    each_as (Touches (read_in request) (written_in request)) (Spares other) (touches_spares (read_in request) (written_in request) other spared) (plan_in request) (touches_in request)
 
 -- ---- what the words ask for
 
@@ -57,42 +61,46 @@ nothing_changed d = record { holds = refl; pending = refl }
 
 -- ---- commands that write nothing
 
-audit_leaves : (words : List (List ℕ)) (q : AuditRequest) (old new : disk.Disk) (result : Result Ending (Halt Refusal)) → request_in words ≡ Some (Audit q) → Runs (plan_for words) old new result → Unchanged old.told new.told
-audit_leaves words q old new result is runs = writes_nothing (Room (plan_of (Audit q))) old new result (audit_is_read q) (runs_for words (Audit q) old new result is runs)
-
-check_leaves : (words : List (List ℕ)) (q : CheckRequest) (old new : disk.Disk) (result : Result Ending (Halt Refusal)) → request_in words ≡ Some (Check q) → Runs (plan_for words) old new result → Unchanged old.told new.told
-check_leaves words q old new result is runs = writes_nothing (Room (plan_of (Check q))) old new result (check_is_read q) (runs_for words (Check q) old new result is runs)
-
-none_leave : (words : List (List ℕ)) (old new : disk.Disk) (result : Result Ending (Halt Refusal)) → request_in words ≡ None → Runs (plan_for words) old new result → Unchanged old.told new.told
-none_leave words old new result is runs = writes_nothing (Room (plan_in None)) old new result tt (subst (λ (r : Option Request). Runs (Room (plan_in r)) old new result) is runs)
-
--- a request with no file to write
-pub reading_leaves : (words : List (List ℕ)) (request : Option Request) (old new : disk.Disk) (result : Result Ending (Halt Refusal)) → request_in words ≡ request → ((q : KeygenRequest) → request ≢ Some (Keygen q))
-    → Runs (plan_for words) old new result → Unchanged old.told new.told
-reading_leaves words None old new result is not_keygen runs = none_leave words old new result is runs
-reading_leaves words (Some (Audit q)) old new result is not_keygen runs = audit_leaves words q old new result is runs
-reading_leaves words (Some (Keygen q)) old new result is not_keygen runs = absurd (not_keygen q refl)
-reading_leaves words (Some (Check q)) old new result is not_keygen runs = check_leaves words q old new result is runs
-
 not_write : (result : Result Ending (Halt Refusal)) → result ≢ Err (Faulted disk.WriteFault) → fault_in result ≢ Err disk.WriteFault
 not_write (Ok ending) ne is = absurd cc
 not_write (Err (Refused refusal)) ne is = absurd cc
 not_write (Err (Faulted fault)) ne is = let e : fault ≡ disk.WriteFault = cc in ne (ap (λ f. Err (Faulted f)) e)
 
-reading_alone : (words : List (List ℕ)) (request : Option Request) (old new : disk.Disk) (result : Result Ending (Halt Refusal)) → request_in words ≡ request → ((q : KeygenRequest) → request ≢ Some (Keygen q))
-    → Runs (plan_for words) old new result → result ≢ Err (Faulted disk.WriteFault)
-reading_alone words None old new result is not_keygen runs = reads_alone (Room (plan_in None)) old new result tt (subst (λ (r : Option Request). Runs (Room (plan_in r)) old new result) is runs)
-reading_alone words (Some (Audit q)) old new result is not_keygen runs = reads_alone (Room (plan_of (Audit q))) old new result (audit_is_read q) (runs_for words (Audit q) old new result is runs)
-reading_alone words (Some (Keygen q)) old new result is not_keygen runs = absurd (not_keygen q refl)
-reading_alone words (Some (Check q)) old new result is not_keygen runs = reads_alone (Room (plan_of (Check q))) old new result (check_is_read q) (runs_for words (Check q) old new result is runs)
+reading_alone : (request : Option Request) (old new : disk.Disk) (result : Result Ending (Halt Refusal)) → written_in request ≡ [] → Runs (Room (plan_in request)) old new result → fault_in result ≢ Err disk.WriteFault
+reading_alone request old new result none runs = not_write result (reads_alone (Room (plan_in request)) old new result (reads_in request none) runs)
 
-pub sink_fails : (words : List (List ℕ)) (old new : disk.Disk) (before after : disk.Tape) (status : ℕ) → ((q : KeygenRequest) → request_in words ≢ Some (Keygen q)) → RunsTo (plan_for words) old new before after status → OnlyTheSinkFails old new before after status
-sink_fails words old new before after status not_keygen run =
-    let ne = not_write run.result (reading_alone words (request_in words) old new run.result refl not_keygen run.runs) in
+-- a plan of steps that read
+leaves_by : {A : Type 0} (plan : Plan Refusal A) (old new : disk.Disk) (result : Result A (Halt Refusal)) → Each IsRead plan → new.write_faults ≡ old.write_faults → Runs plan old new result → LeavesFiles old new
+leaves_by plan old new result each writes runs = record { told = writes_nothing plan old new result each runs; writes = writes; only = done_only IsRead plan old new result each runs }
+
+writes_stand : {A : Type 0} (plan : Plan Refusal A) (old new : disk.Disk) (result : Result A (Halt Refusal)) → fault_in result ≢ Err disk.WriteFault → Runs plan old new result → new.write_faults ≡ old.write_faults
+writes_stand plan old new result ne runs = (counts_one plan old new result runs).writes ∙ still_writes (fault_in result) old.write_faults ne
+
+reading_leaves : (request : Option Request) (old new : disk.Disk) (result : Result Ending (Halt Refusal)) → written_in request ≡ [] → Runs (Room (plan_in request)) old new result → LeavesFiles old new
+reading_leaves request old new result none runs =
+    leaves_by (Room (plan_in request)) old new result (reads_in request none) (writes_stand (Room (plan_in request)) old new result (reading_alone request old new result none runs) runs) runs
+
+pub run_reading : (words : List (List ℕ)) (old new : disk.Disk) (before after : disk.Tape) (status : ℕ) → written_in (request_in words) ≡ [] → RunsTo (plan_for words) old new before after status → LeavesFiles old new
+run_reading words old new before after status none run = reading_leaves (request_in words) old new run.result none run.runs
+
+pub sink_fails : (words : List (List ℕ)) (old new : disk.Disk) (before after : disk.Tape) (status : ℕ) → written_in (request_in words) ≡ [] → RunsTo (plan_for words) old new before after status → OnlyTheSinkFails old new before after status
+sink_fails words old new before after status none run =
+    let ne = reading_alone (request_in words) old new run.result none run.runs in
     record {
-      writes = (counts_one (plan_for words) old new run.result run.runs).writes ∙ still_writes (fault_in run.result) old.write_faults ne;
+      writes = writes_stand (plan_for words) old new run.result ne run.runs;
       sink = sink_alone (request_in words) run.result run.ending run.delivers.got before after status (ending_says (request_in words) old new run.result run.ending run.runs run.concludes) ne run.delivers.offers run.delivers.answers;
     }
+
+-- ---- the steps of a run
+
+pub run_steps : (words : List (List ℕ)) (old new : disk.Disk) (before after : disk.Tape) (status : ℕ) (run : RunsTo (plan_for words) old new before after status)
+    → DoneBy (Touches (read_in (request_in words)) (written_in (request_in words))) (fault_in run.result) old new
+run_steps words old new before after status run =
+    done_by (Touches (read_in (request_in words)) (written_in (request_in words))) (Room (plan_in (request_in words))) old new run.result (touches_in (request_in words)) run.runs
+
+pub run_spares : (words : List (List ℕ)) (other : List ℕ) (old new : disk.Disk) (before after : disk.Tape) (status : ℕ) → (IsAmong other (written_in (request_in words)) → ⊥) → RunsTo (plan_for words) old new before after status
+    → Kept other old.told new.told
+run_spares words other old new before after status spared run = spares_others other (Room (plan_in (request_in words))) old new run.result (spares_in (request_in words) other spared) run.runs
 
 -- ---- keygen
 
@@ -119,7 +127,7 @@ told_after (Some s) None t is u = absurd (let h = u.holds in cc)
 told_after (Some s) (Some v) t is u = (v, refl, (let e : v.holds ≡ s.holds = (let h = u.holds in cc) in let f : s ≡ t = cc in e ∙ ap (λ (t : disk.Told). t.holds) f))
 
 key_saved : (q : KeygenRequest) (key : Key) (old mid new : disk.Disk) (t m : disk.Told) (ending : Ending) → mid.told ≡ Some m → m.holds ≡ t.holds
-    → Runs {E = Refusal} (save q.key (key_file key) >>= λ done. Done (key_ending key)) mid new (Ok ending) → (u : disk.Told) × (new.told ≡ Some u) × Left q.key (key_file key) t u
+    → Runs {E = Refusal} (save q.key (key_file key) >>= λ done. Done (key_ending key)) mid new (Ok ending) → (u : disk.Told) × (new.told ≡ Some u) × Saved q.key (key_file key) t u
 unfolding Runs
 key_saved q key old mid new t m ending told same runs =
     ⊎_elim
@@ -130,7 +138,7 @@ key_saved q key old mid new t m ending told same runs =
     (taken_apart (save q.key (key_file key)) (λ done. Done (key_ending key)) mid new (Ok ending) runs)
 
 key_left : (q : KeygenRequest) (old new : disk.Disk) (t : disk.Told) (ending : Ending) → old.told ≡ Some t → Runs (plan_of (Keygen q)) old new (Ok ending)
-    → (key : Key) × (outcome t.holds (key_plan q) ≡ Ok key) × ((u : disk.Told) × (new.told ≡ Some u) × Left q.key (key_file key) t u)
+    → (key : Key) × (outcome t.holds (key_plan q) ≡ Ok key) × ((u : disk.Told) × (new.told ≡ Some u) × Saved q.key (key_file key) t u)
 unfolding Runs followed_by plan_of keygen_plan
 key_left q old new t ending told runs =
     ⊎_elim
@@ -144,21 +152,46 @@ key_left q old new t ending told runs =
     (taken_apart (key_plan q) _ old new (Ok ending) runs)
 
 key_left_in : (q : KeygenRequest) (old new : disk.Disk) (t : disk.Told) (ending : Ending) → old.told ≡ Some t → Runs (Room (plan_of (Keygen q))) old new (Ok ending)
-    → (key : Key) × (outcome t.holds (key_plan q) ≡ Ok key) × ((u : disk.Told) × (new.told ≡ Some u) × Left q.key (key_file key) t u)
+    → (key : Key) × (outcome t.holds (key_plan q) ≡ Ok key) × ((u : disk.Told) × (new.told ≡ Some u) × Saved q.key (key_file key) t u)
 unfolding Runs
 key_left_in q old new t ending told (inl (same, is)) = absurd cc
 key_left_in q old new t ending told (inr runs) = key_left q old new t ending told runs
 
+-- an ending of 0, whether or not the sink took it
+is_zero : (e : Ending) (got : Result (Unit {0}) disk.Fault) (status : ℕ) → Answers e got status → Answered (λ s. s ≡ 0) e status → e.status ≡ 0
+is_zero e got status is answered = answered_so (λ s. s ≡ 0) e got status (λ no. omega (arith, no)) (λ no. omega (arith, no)) is answered
+
 pub run_left : (words : List (List ℕ)) (q : KeygenRequest) (old new : disk.Disk) (before after : disk.Tape) (status : ℕ) (t : disk.Told) → request_in words ≡ Some (Keygen q) → old.told ≡ Some t
-    → (run : RunsTo (plan_for words) old new before after status) → run.ending.status ≡ 0
-    → (key : Key) × (outcome t.holds (key_plan q) ≡ Ok key) × ((u : disk.Told) × (new.told ≡ Some u) × Left q.key (key_file key) t u)
+    → (run : RunsTo (plan_for words) old new before after status) → Answered (λ s. s ≡ 0) run.ending status
+    → (key : Key) × (outcome t.holds (key_plan q) ≡ Ok key) × ((u : disk.Told) × (new.told ≡ Some u) × Saved q.key (key_file key) t u)
 run_left words q old new before after status t is told run zero =
-    let g = gave (Room (plan_of (Keygen q))) old new run.result run.ending (runs_for words (Keygen q) old new run.result is run.runs) run.concludes zero in
+    let g = gave (Room (plan_of (Keygen q))) old new run.result run.ending (runs_for words (Keygen q) old new run.result is run.runs) run.concludes (is_zero run.ending run.delivers.got status run.delivers.answers zero) in
     key_left_in q old new t g.0 told g.1
 
-pub run_spares : (words : List (List ℕ)) (q : KeygenRequest) (other : List ℕ) (old new : disk.Disk) (before after : disk.Tape) (status : ℕ) → request_in words ≡ Some (Keygen q) → other ≢ q.key
-    → RunsTo (plan_for words) old new before after status → Kept other old.told new.told
-run_spares words q other old new before after status is ne run = spares_others other (Room (plan_of (Keygen q))) old new run.result (keygen_spares q other ne) (runs_for words (Keygen q) old new run.result is run.runs)
+-- the key file was written, whatever the files tell
+saves_key : (q : KeygenRequest) (key : Key) (old read new : disk.Disk) (ending : Ending) → Runs (key_plan q) old read (Ok key) → Runs {E = Refusal} (save q.key (key_file key) >>= λ done. Done (key_ending key)) read new (Ok ending) → SavesKey q old new
+unfolding Runs followed_by save
+saves_key q key old read new ending gets (m1, Err f, cuts, (same, is)) = absurd cc
+saves_key q key old read new ending gets (m1, Ok x, cuts, (m2, Err f, writes, (same, is))) = absurd cc
+saves_key q key old read new ending gets (m1, Ok x, cuts, (m2, Ok y, writes, (m3, Err f, syncs, (same, is)))) = absurd cc
+saves_key q key old read new ending gets (m1, Ok x, cuts, (m2, Ok y, writes, (m3, Ok z, syncs, (same, is)))) =
+    record { key = key; read = read; cut = m1; wrote = m2; gets = gets; cuts = cuts; writes = writes; syncs = subst (λ (d : disk.Disk). disk.Syncs q.key m2 d (Ok tt)) (sym same) syncs }
+
+key_saves : (q : KeygenRequest) (old new : disk.Disk) (ending : Ending) → Runs (plan_of (Keygen q)) old new (Ok ending) → SavesKey q old new
+unfolding Runs followed_by plan_of keygen_plan
+key_saves q old new ending runs =
+    ⊎_elim (λ w. ⊎_elim (λ none. absurd (let e = none.1 in cc)) (λ rest. saves_key q w.1 old w.0 new ending w.2 rest) w.3) (λ w. absurd (let e = w.2 in cc)) (taken_apart (key_plan q) _ old new (Ok ending) runs)
+
+key_saves_in : (q : KeygenRequest) (old new : disk.Disk) (ending : Ending) → Runs (Room (plan_of (Keygen q))) old new (Ok ending) → SavesKey q old new
+unfolding Runs
+key_saves_in q old new ending (inl (same, is)) = absurd cc
+key_saves_in q old new ending (inr runs) = key_saves q old new ending runs
+
+pub run_saves : (words : List (List ℕ)) (q : KeygenRequest) (old new : disk.Disk) (before after : disk.Tape) (status : ℕ) → request_in words ≡ Some (Keygen q) → (run : RunsTo (plan_for words) old new before after status)
+    → Answered (λ s. s ≡ 0) run.ending status → SavesKey q old new
+run_saves words q old new before after status is run zero =
+    let g = gave (Room (plan_of (Keygen q))) old new run.result run.ending (runs_for words (Keygen q) old new run.result is run.runs) run.concludes (is_zero run.ending run.delivers.got status run.delivers.answers zero) in
+    key_saves_in q old new g.0 g.1
 
 -- whatever came of it, the key file holds what writing it in whole may leave
 MayLeave : (q : KeygenRequest) (old new : disk.Disk) (t : disk.Told) → Type 0
@@ -217,36 +250,51 @@ saved_ends : (result : Result Ending (Halt Refusal)) (e : Ending) (halt : Halt R
 saved_ends result e halt is (inl by) c = inl (faulted_ends result e disk.WriteFault (is ∙ ap (λ h. Err h) by) c)
 saved_ends result e halt is (inr by) c = inr (faulted_ends result e disk.Memory (is ∙ ap (λ h. Err h) by) c)
 
-key_refused : (q : KeygenRequest) (old new : disk.Disk) (result : Result Ending (Halt Refusal)) (e : Ending) → Runs (plan_of (Keygen q)) old new result → Concludes result e → e.status ≢ 0 → e.status ≢ 5 → e.status ≢ 6 → Unchanged old.told new.told
+leaves_to : (old mid new : disk.Disk) → new ≡ mid → LeavesFiles old mid → LeavesFiles old new
+leaves_to old mid new same leaves = subst (λ (d : disk.Disk). LeavesFiles old d) (sym same) leaves
+
+-- the seed file was read, or wasn't
+key_leaves : (q : KeygenRequest) (old new : disk.Disk) (result : Result Key (Halt Refusal)) → Runs (key_plan q) old new result → LeavesFiles old new
+key_leaves q old new result runs =
+    leaves_by (key_plan q) old new result (key_is_read q) (writes_stand (key_plan q) old new result (key_not_write result (reads_alone (key_plan q) old new result (key_is_read q) runs)) runs) runs
+  where
+    key_not_write : (result : Result Key (Halt Refusal)) → result ≢ Err (Faulted disk.WriteFault) → fault_in result ≢ Err disk.WriteFault
+    key_not_write (Ok key) ne is = absurd cc
+    key_not_write (Err (Refused refusal)) ne is = absurd cc
+    key_not_write (Err (Faulted fault)) ne is = let e : fault ≡ disk.WriteFault = cc in ne (ap (λ f. Err (Faulted f)) e)
+
+key_refused : (q : KeygenRequest) (old new : disk.Disk) (result : Result Ending (Halt Refusal)) (e : Ending) → Runs (plan_of (Keygen q)) old new result → Concludes result e → e.status ≢ 0 → e.status ≢ 5 → e.status ≢ 6 → LeavesFiles old new
 unfolding Runs followed_by plan_of keygen_plan key_ending
 key_refused q old new result e runs c no_zero no_five no_six =
     ⊎_elim
     (λ w.
-    let still = writes_nothing (key_plan q) old w.0 (Ok w.1) (key_is_read q) w.2 in
-    ⊎_elim (λ none. unchanged_by old w.0 new none.0 still)
+    ⊎_elim (λ none. leaves_to old w.0 new none.0 (key_leaves q old w.0 (Ok w.1) w.2))
     (λ rest. ⊎_elim
     (λ v. absurd (no_zero (done_ends result e (key_ending w.1) v.3.1 c)))
     (λ v. absurd (⊎_elim (λ s. no_five s) (λ s. no_six s) (saved_ends result e v.0 v.2 (save_stops Refusal q.key (key_file w.1) w.0 new v.0 v.1) c)))
     (taken_apart (save q.key (key_file w.1)) (λ done. Done (key_ending w.1)) w.0 new result rest))
     w.3)
-    (λ w. writes_nothing (key_plan q) old new (Err w.0) (key_is_read q) w.1)
+    (λ w. key_leaves q old new (Err w.0) w.1)
     (taken_apart (key_plan q) _ old new result runs)
 
-key_refused_in : (q : KeygenRequest) (old new : disk.Disk) (result : Result Ending (Halt Refusal)) (e : Ending) → Runs (Room (plan_of (Keygen q))) old new result → Concludes result e → e.status ≢ 0 → e.status ≢ 5 → e.status ≢ 6 → Unchanged old.told new.told
+nothing_done : (old new : disk.Disk) → new ≡ old → LeavesFiles old new
+nothing_done old new same = leaves_to old old new same (record { told = nothing_changed old; writes = refl; only = record { steps = []; lead = refl; each = tt } })
+
+key_refused_in : (q : KeygenRequest) (old new : disk.Disk) (result : Result Ending (Halt Refusal)) (e : Ending) → Runs (Room (plan_of (Keygen q))) old new result → Concludes result e → e.status ≢ 0 → e.status ≢ 5 → e.status ≢ 6 → LeavesFiles old new
 unfolding Runs
-key_refused_in q old new result e (inl (same, is)) c a b d = unchanged_by old old new same (nothing_changed old)
+key_refused_in q old new result e (inl (same, is)) c a b d = nothing_done old new same
 key_refused_in q old new result e (inr runs) c a b d = key_refused q old new result e runs c a b d
 
-refused_leave : (words : List (List ℕ)) (request : Option Request) (old new : disk.Disk) (result : Result Ending (Halt Refusal)) (e : Ending) → request_in words ≡ request → Runs (plan_for words) old new result → Concludes result e
-    → e.status ≢ 0 → e.status ≢ 5 → e.status ≢ 6 → Unchanged old.told new.told
-refused_leave words None old new result e is runs c a b d = none_leave words old new result is runs
-refused_leave words (Some (Audit q)) old new result e is runs c a b d = audit_leaves words q old new result is runs
-refused_leave words (Some (Keygen q)) old new result e is runs c a b d = key_refused_in q old new result e (runs_for words (Keygen q) old new result is runs) c a b d
-refused_leave words (Some (Check q)) old new result e is runs c a b d = check_leaves words q old new result is runs
+refused_leave : (request : Option Request) (old new : disk.Disk) (result : Result Ending (Halt Refusal)) (e : Ending) → Runs (Room (plan_in request)) old new result → Concludes result e → e.status ≢ 0 → e.status ≢ 5 → e.status ≢ 6 → LeavesFiles old new
+refused_leave None old new result e runs c a b d = reading_leaves None old new result refl runs
+refused_leave (Some (Audit q)) old new result e runs c a b d = reading_leaves (Some (Audit q)) old new result refl runs
+refused_leave (Some (Keygen q)) old new result e runs c a b d = key_refused_in q old new result e runs c a b d
+refused_leave (Some (Check q)) old new result e runs c a b d = reading_leaves (Some (Check q)) old new result refl runs
 
-pub run_refused : (words : List (List ℕ)) (old new : disk.Disk) (before after : disk.Tape) (status : ℕ) (run : RunsTo (plan_for words) old new before after status)
-    → run.ending.status ≢ 0 → run.ending.status ≢ 5 → run.ending.status ≢ 6 → Unchanged old.told new.told
-run_refused words old new before after status run a b d = refused_leave words (request_in words) old new run.result run.ending refl run.runs run.concludes a b d
+pub run_refused : (words : List (List ℕ)) (old new : disk.Disk) (before after : disk.Tape) (status : ℕ) (run : RunsTo (plan_for words) old new before after status) → Answered WroteNothing run.ending status → LeavesFiles old new
+run_refused words old new before after status run answered =
+    let none = answered_so WroteNothing run.ending run.delivers.got status (λ no. no.1 refl) (λ no. no.2 refl) run.delivers.answers answered in
+    refused_leave (request_in words) old new run.result run.ending run.runs run.concludes none.0 none.1 none.2
 
 -- ---- what the files make of the ending
 
@@ -292,8 +340,8 @@ key_gives q held old new result told runs =
 request_gives : (request : Request) (held : disk.Contents) (old new : disk.Disk) (result : Result Ending (Halt Refusal)) → option_map (λ t. t.holds) old.told ≡ Some held → Runs (Room (plan_of request)) old new result
     → Gives (outcome held (plan_of request)) result
 unfolding Runs
-request_gives (Audit q) held old new result told runs = gives_outcome (Room (plan_of (Audit q))) held old new result (audit_is_read q) told runs
-request_gives (Check q) held old new result told runs = gives_outcome (Room (plan_of (Check q))) held old new result (check_is_read q) told runs
+request_gives (Audit q) held old new result told runs = gives_outcome (Room (plan_of (Audit q))) held old new result (reads_in (Some (Audit q)) refl) told runs
+request_gives (Check q) held old new result told runs = gives_outcome (Room (plan_of (Check q))) held old new result (reads_in (Some (Check q)) refl) told runs
 request_gives (Keygen q) held old new result told (inl (same, is)) = rw is tt
 request_gives (Keygen q) held old new result told (inr runs) = key_gives q held old new result told runs
 
@@ -307,3 +355,20 @@ pub run_ends_by : (words : List (List ℕ)) (request : Request) (held : disk.Con
     → (run : RunsTo (plan_for words) old new before after status) → EndsBy held (plan_of request) run.result run.ending
 run_ends_by words request held old new before after status is told run =
     ends_by (plan_of request) held run.result run.ending (request_gives request held old new run.result told (runs_for words request old new run.result is run.runs)) run.concludes
+
+-- ---- where no count rose
+
+no_fault_ends : (held : disk.Contents) (plan : Work Ending) (old new : disk.Disk) (before after : disk.Tape) (result : Result Ending (Halt Refusal)) (e : Ending) → EndsBy held plan result e → CountsOne old new result → NoneRose old new before after
+    → (e ≡ ended (outcome held plan)) ⊎ (e ≡ fault_ending disk.Memory)
+no_fault_ends held plan old new before after result e (inl is) counts none = inl is
+no_fault_ends held plan old new before after result e (inr (inl is)) counts none = inr is
+no_fault_ends held plan old new before after result e (inr (inr (disk.ReadFault, by, is))) counts none = absurd (none.reads (counts.reads ∙ ap (λ f. reads_after f old.read_faults) by))
+no_fault_ends held plan old new before after result e (inr (inr (disk.WriteFault, by, is))) counts none = absurd (none.writes (counts.writes ∙ ap (λ f. writes_after f old.write_faults) by))
+no_fault_ends held plan old new before after result e (inr (inr (disk.Memory, by, is))) counts none = inr is
+
+pub run_ends_as : (words : List (List ℕ)) (request : Request) (held : disk.Contents) (old new : disk.Disk) (before after : disk.Tape) (status : ℕ) → request_in words ≡ Some request → option_map (λ t. t.holds) old.told ≡ Some held
+    → (run : RunsTo (plan_for words) old new before after status) → NoneRose old new before after → EndsAs held (plan_of request) run.ending status
+run_ends_as words request held old new before after status is told run none = record {
+  ending = no_fault_ends held (plan_of request) old new before after run.result run.ending (run_ends_by words request held old new before after status is told run) (counts_one (plan_for words) old new run.result run.runs) none;
+  answers = own_status run.ending run.delivers.got before after status none.sink run.delivers.offers run.delivers.answers;
+}

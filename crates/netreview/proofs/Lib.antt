@@ -7,3 +7,4 @@ pub mod ReportLemmas
 pub mod PlanKinds
 pub mod StatusLaws
 pub mod FileLaws
+pub mod FileOrder

@@ -12,6 +12,7 @@ use Rattle.nr_spec_history.specs.KeyFiles.{seed_of}
 use Rattle.netreview.specs.Promises.{promise_of}
 use Rattle.nr_spec_commands.specs.Words.{AuditRequest, CheckRequest, KeygenRequest, Request, Audit, Check, Keygen}
 use Rattle.netreview.specs.Command.{Input, Work, Ending, Refusal, NoFile, Limit, Malformed, refusal_ending, load, sized, well_formed, concluded, promise_plan, check_plan, audit_plan, key_plan, keygen_plan, plan_of, input_limit, promise_ending, report_ending, key_ending}
+use Rattle.netreview.specs.Causes.{EndOf}
 use Rattle.netreview.specs.Command as command
 
 -- ---- steps of one kind
@@ -21,16 +22,16 @@ pub record KindReads (kind : Action → Type 0) (name : List ℕ) : Type 0 where
   pub ask : kind (Ask name)
   pub read : (size : ℕ) → kind (Read name size)
 
-sized_each : (kind : Action → Type 0) (input : Input) (answer : Option ℕ) → Each kind (sized input answer)
+pub sized_each : (kind : Action → Type 0) (input : Input) (answer : Option ℕ) → Each kind (sized input answer)
 sized_each kind input None = tt
 sized_each kind input (Some found) = elim (cases_Bool (nat_le found (input_limit input))) [ inl is ↦ rw is tt | inr is ↦ rw is tt ]
 
-load_each : (kind : Action → Type 0) (input : Input) (name : List ℕ) → KindReads kind name → Each kind (load input name)
+pub load_each : (kind : Action → Type 0) (input : Input) (name : List ℕ) → KindReads kind name → Each kind (load input name)
 unfolding load
 load_each kind input name is =
     each_followed kind _ _ (is.ask, λ answer. tt) (λ answer. each_followed kind _ _ (sized_each kind input answer) (λ size. (is.read size, λ bytes. tt)))
 
-well_formed_each : {A : Type 0} (kind : Action → Type 0) (input : Input) (found : Result A ℕ) → Each kind (well_formed input found)
+pub well_formed_each : {A : Type 0} (kind : Action → Type 0) (input : Input) (found : Result A ℕ) → Each kind (well_formed input found)
 well_formed_each kind input (Ok value) = tt
 well_formed_each kind input (Err place) = tt
 
@@ -38,7 +39,7 @@ concluded_each : (kind : Action → Type 0) (found : Result (List Authenticator)
 concluded_each kind (Ok conflicts) = tt
 concluded_each kind (Err fact) = tt
 
-promise_each : (kind : Action → Type 0) (name : List ℕ) → KindReads kind name → Each kind (promise_plan name)
+pub promise_each : (kind : Action → Type 0) (name : List ℕ) → KindReads kind name → Each kind (promise_plan name)
 unfolding promise_plan
 promise_each kind name is = each_followed kind _ _ (load_each kind _ name is) (λ text. well_formed_each kind _ (promise_of text))
 
@@ -63,23 +64,30 @@ pub keygen_each : (kind : Action → Type 0) (q : KeygenRequest) → KindReads k
 unfolding plan_of keygen_plan save followed_by
 keygen_each kind q is cut write sync = each_followed kind (key_plan q) _ (key_each kind q is) (λ key. (cut, λ a. (write _, λ b. (sync, λ c. tt))))
 
--- ---- the statuses of endings
+-- ---- endings
 
-abbrev pub IsEnd : Ending → Type 0
-IsEnd e = e.status ≤ 1
-
-report_ends : (found : Result (List Authenticator) report.Fact) → Ends IsEnd (concluded found)
-unfolding report_ending
-report_ends (Ok []) = omega arith
-report_ends (Ok (first ∷ others)) = omega arith
+report_ends : (found : Result (List Authenticator) report.Fact) → Ends (λ e. (conflicts : List Authenticator) × (e ≡ report_ending conflicts)) (concluded found)
+report_ends (Ok conflicts) = (conflicts, refl)
 report_ends (Err fact) = tt
 
-pub request_ends : (request : Request) → Ends IsEnd (plan_of request)
-unfolding plan_of check_plan audit_plan keygen_plan promise_ending key_ending
-request_ends (Check q) = ends_followed IsEnd _ _ (λ promise. ends_followed IsEnd want _ (λ room. omega arith))
+pub request_ends : (request : Request) → Ends (EndOf request) (plan_of request)
+unfolding plan_of check_plan audit_plan keygen_plan
+request_ends (Check q) = ends_followed (EndOf (Check q)) _ _ (λ promise. ends_followed (EndOf (Check q)) want _ (λ room. (promise, refl)))
 request_ends (Audit q) =
-    ends_followed IsEnd _ _ (λ promise. ends_followed IsEnd _ _ (λ answer_bytes. ends_followed IsEnd _ _ (λ answer. ends_followed IsEnd _ _ (λ auths_bytes. ends_followed IsEnd _ _ (λ auths. report_ends _)))))
-request_ends (Keygen q) = ends_followed IsEnd _ _ (λ key. ends_followed IsEnd want _ (λ room. ends_followed IsEnd _ _ (λ done. omega arith)))
+    ends_followed (EndOf (Audit q)) _ _ (λ promise. ends_followed (EndOf (Audit q)) _ _ (λ answer_bytes. ends_followed (EndOf (Audit q)) _ _ (λ answer. ends_followed (EndOf (Audit q)) _ _ (λ auths_bytes. ends_followed (EndOf (Audit q)) _ _ (λ auths. report_ends _)))))
+request_ends (Keygen q) = ends_followed (EndOf (Keygen q)) _ _ (λ key. ends_followed (EndOf (Keygen q)) want _ (λ room. ends_followed (EndOf (Keygen q)) _ _ (λ done. (key, refl))))
+
+-- the statuses of endings
+report_low : (conflicts : List Authenticator) → (report_ending conflicts).status ≤ 1
+unfolding report_ending
+report_low [] = omega arith
+report_low (first ∷ others) = omega arith
+
+pub ends_low : (request : Request) (e : Ending) → EndOf request e → e.status ≤ 1
+unfolding promise_ending key_ending
+ends_low (Audit q) e (conflicts, is) = rw is (report_low conflicts)
+ends_low (Keygen q) e (key, is) = rw is (omega arith)
+ends_low (Check q) e (promise, is) = rw is (omega arith)
 
 pub refusal_status : (refusal : Refusal) → ((refusal_ending refusal).status ≡ 3) ⊎ ((refusal_ending refusal).status ≡ 7)
 unfolding refusal_ending

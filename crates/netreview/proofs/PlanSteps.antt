@@ -14,9 +14,9 @@ use Rattle.netreview.specs.declared.refusal.Stop.TheVariants as stop
 within : (fits : Bool) (input : Input) (found : ℕ) (name : List ℕ) (old new : Disk) (bytes : List ℕ) → nat_le found (input_limit input) ≡ fits
     → Runs ((if fits then Done found else Refuse (Limit input found)) >>= λ size. act (Read name size)) old new (Ok bytes) → length bytes ≤ input_limit input
 unfolding Runs followed_by
-within true input found name old new bytes fits (mid, Ok read, (short, said, after), (same, is)) =
+within true input found name old new bytes fits (mid, Ok read, (came, said), (same, is)) =
     let whole : bytes ≡ read = cc in
-    omega (arith, leb-true found (input_limit input) fits, ap length whole, short)
+    omega (arith, leb-true found (input_limit input) fits, ap length whole, came.within)
 within true input found name old new bytes fits (mid, Err fault, acts, (same, is)) = absurd cc
 within false input found name old new bytes fits (same, is) = absurd cc
 

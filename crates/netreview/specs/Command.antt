@@ -84,10 +84,15 @@ fact_words (Head head chain) = codes "head" ∷ encode_lower head ∷ encode_low
 fact_words (Short head to) = codes "short" ∷ decimal head ∷ decimal to ∷ []
 
 unfoldable pub refusal_ending : Refusal → Ending
-refusal_ending (NoFile input) = record { status = 7; text = line (codes "refused" ∷ codes "nofile" ∷ input_name input ∷ []) }
+refusal_ending (NoFile input) =
+    record { status = 7; text = line (codes "refused" ∷ codes "nofile" ∷ input_name input ∷ []) }
 refusal_ending (Limit input found) =
-    record { status = 7; text = line (codes "refused" ∷ codes "limit" ∷ input_name input ∷ decimal found ∷ decimal (input_limit input) ∷ []) }
-refusal_ending (Malformed input place) = record { status = 3; text = line (codes "malformed" ∷ input_name input ∷ decimal place ∷ []) }
+    record {
+      status = 7;
+      text = line (codes "refused" ∷ codes "limit" ∷ input_name input ∷ decimal found ∷ decimal (input_limit input) ∷ []);
+    }
+refusal_ending (Malformed input place) =
+    record { status = 3; text = line (codes "malformed" ∷ input_name input ∷ decimal place ∷ []) }
 refusal_ending (Refused fact) = record { status = 7; text = line (codes "refused" ∷ fact_words fact) }
 
 -- 1 where there is a conflict

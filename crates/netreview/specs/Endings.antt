@@ -22,4 +22,5 @@ key_of q seed = record { asn = q.asn; height = q.height; seed = seed.0 }
 
 -- the ending of the report whose conflicts have these lines
 abbrev pub Reports : List ℕ → command.Ending → Type 0
-Reports lines e = (conflicts : List Authenticator) → lines ≡ flat_map conflict_line conflicts → e ≡ command.report_ending conflicts
+Reports lines e =
+    (conflicts : List Authenticator) → lines ≡ flat_map conflict_line conflicts → e ≡ command.report_ending conflicts

@@ -12,7 +12,13 @@ abbrev pub period_of : declared_period.Period → conflicts.Period
 period_of p = record { from = p.from; to = p.to }
 
 abbrev pub audit_request_of : declared_audit.AuditRequest → words.AuditRequest
-audit_request_of q = record { root = q.root.0; promise = q.promise.now; answer = q.answer.now; auths = q.auths.now; period = period_of q.period }
+audit_request_of q = record {
+  root = q.root.0;
+  promise = q.promise.now;
+  answer = q.answer.now;
+  auths = q.auths.now;
+  period = period_of q.period;
+}
 
 abbrev pub keygen_request_of : declared_keygen.KeygenRequest → words.KeygenRequest
 keygen_request_of q = record { asn = q.asn; height = q.height; seed = q.seed.now; key = q.key.now }

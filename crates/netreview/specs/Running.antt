@@ -17,7 +17,8 @@ Answers e (Err ReadFault) status = ⊥
 Answers e (Err WriteFault) status = status ≡ 5
 Answers e (Err Memory) status = status ≡ 6
 
--- An ending is offered to the sink, once, and the status is its own, or 5 or 6 where the sink failed or found no memory.
+-- An ending is offered to the sink, once, and the status is its own, or 5 or 6 where the sink failed or found no
+-- memory.
 pub record Delivers (e : Ending) (before after : Tape) (status : ℕ) : Type 0 where
   pub got : Result (Unit {0}) Fault
   pub offers : Offers e.text before after got

@@ -73,7 +73,8 @@ fn read_key<F: Files>(
     files: &mut F,
     request: &KeygenRequest<'_>,
 ) -> Result<Seed, Stop>
-    ensures { Does (key_of request.now) (key_plan (keygen_request_of request.now)) (F.disk files.old) (F.disk files.new) result }
+    ensures { Does (key_of request.now) (key_plan (keygen_request_of request.now))
+        (F.disk files.old) (F.disk files.new) result }
 {
     let bytes = read_input(alloc, files, Input::Seed, request.seed)?;
     Ok(read_seed(&bytes)?)
@@ -87,7 +88,8 @@ pub fn keygen<F: Files>(
     files: &mut F,
     request: &KeygenRequest<'_>,
 ) -> Result<Ending, Stop>
-    ensures { Does ending_of (keygen_plan (keygen_request_of request.now)) (F.disk files.old) (F.disk files.new) result }
+    ensures { Does ending_of (keygen_plan (keygen_request_of request.now))
+        (F.disk files.old) (F.disk files.new) result }
 {
     let seed = read_key(alloc, files, request)?;
     let ending = key_ending(alloc, request, &seed)?;

@@ -14,7 +14,7 @@ struct OneByte {
 }
 
 impl Sink for OneByte {
-    ghost tape = { λ _. record { taken = None; faults = 0 } };
+    ghost tape = { λ _. record { told = None; faults = 0 } };
 
     fn write(&mut self, piece: &[u8]) -> Result<usize, WriteFault> {
         match piece.first() {

@@ -24,7 +24,8 @@ pub fn read_input<F: Files>(
     input: Input,
     name: &str,
 ) -> Result<Vec<u8>, Stop>
-    ensures { Does (λ bytes. bytes.items) (load (input_of input) name.now) (F.disk files.old) (F.disk files.new) result }
+    ensures { Does (λ bytes. bytes.items) (load (input_of input) name.now)
+        (F.disk files.old) (F.disk files.new) result }
 {
     let Some(found) = files.size(name)? else {
         return Err(Stop::Refused(Refusal::NoFile(input)));

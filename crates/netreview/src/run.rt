@@ -39,7 +39,8 @@ fn run_request<F: Files, S: Sink>(
     files: &mut F,
     out: &mut S,
 ) -> u8
-    ensures { RunsTo (plan_of (request_of request.now)) (F.disk files.old) (F.disk files.new) (S.tape out.old) (S.tape out.new) result }
+    ensures { RunsTo (plan_of (request_of request.now))
+        (F.disk files.old) (F.disk files.new) (S.tape out.old) (S.tape out.new) result }
 {
     match perform(alloc, files, request) {
         Ok(ending) => deliver(out, ending.status, &ending.text),
@@ -57,7 +58,8 @@ fn run_request<F: Files, S: Sink>(
 /// the network promised, and judges none of it yet: it finds conflicts alone.
 #[tactic(auto, unfolding(nr_spec_plans::specs::Plans::Runs, nr_spec_plans::specs::Plans::followed_by))]
 pub fn run<F: Files, S: Sink>(alloc: Global, words: &[String], files: &mut F, out: &mut S) -> u8
-    ensures { RunsTo (plan_for (map string_bytes words.now)) (F.disk files.old) (F.disk files.new) (S.tape out.old) (S.tape out.new) result }
+    ensures { RunsTo (plan_for (map string_bytes words.now))
+        (F.disk files.old) (F.disk files.new) (S.tape out.old) (S.tape out.new) result }
 {
     match request_from(alloc, words) {
         Err(Memory) => deliver_fixed(out, out_of_memory()),

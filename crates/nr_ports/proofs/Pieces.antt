@@ -6,11 +6,13 @@ use Rattle.nr_spec_plans.specs.Disk.{Takes, Offers, failing, written}
 use Rattle.std.proofs.Common.{inl, inr}
 use Rattle.std.proofs.lemmas.List.{drop_all, drop_at, take-append-drop, take-append-le}
 use Rattle.std.proofs.lemmas.Bool.{cases_lt}
-use Rattle.std.proofs.Common.{◌≡◌, ℕ, ◌+◌, ◌-◌, ◌<◌, ◌≤◌, min, List, [], ◌++◌, length, take, drop, Option, Some, None, Err, refl, sym, ◌∙◌, ap, arith, append_assoc, length-drop}
+use Rattle.std.specs.Prelude.{IsTrue}
+use Rattle.std.proofs.Common.{zero, suc, subst, ◌≡◌, ℕ, ◌+◌, ◌-◌, ◌<◌, ◌≤◌, min, List, [], ◌∷◌, ◌++◌, length, take, drop, Option, Some, None, Err, refl, sym, ◌∙◌, ap, arith, append_assoc, length-drop}
 use Rattle.std.specs.Prelude.{option_map}
 use Rattle.std.proofs.Math.Seq.{take-add, take-append-add}
 use Rattle.std.proofs.lemmas.List.{append-nil, length-take-le, take_all, take_at, take_rest}
-use Rattle.nr_spec_plans.specs.Disk.{Disk, Told, Tape, more, reading, read, ticking, ticked, taking, filled}
+use Rattle.nr_spec_plans.specs.Disk.{Disk, Told, Heard, Tape, more, reading, read, ticking, ticked, taking, taking_in, hearing, offered, filled, bytes_of, is_listed}
+use Rattle.nr_spec_plans.specs.Plans.{calls_for, NoneListed, WholeBy, StoppedBy}
 
 more_more : (m n count : ℕ) → more n (more m count) ≡ more (m + n) count
 more_more m n count = omega arith
@@ -48,24 +50,40 @@ idle_told (Some t) m k = ap (λ (r : ℕ). Some (record { holds = t.holds; is_pe
 pub read_failed : (d : Disk) (m k : ℕ) → ticked 1 (read m (ticked k d)) ≡ read m (ticked (k + 1) d)
 read_failed d m k = ap (λ (told : Option Told). record { told = told; read_faults = d.read_faults; write_faults = d.write_faults }) (idle_told d.told m k)
 
-took_told : (taken : Option (List ℕ)) (a b : List ℕ) → option_map (λ before. before ++ b) (option_map (λ before. before ++ a) taken) ≡ option_map (λ before. before ++ (a ++ b)) taken
+took_told : (told : Option Heard) (a b : List ℕ) → option_map (taking_in b) (option_map (taking_in a) told) ≡ option_map (taking_in (a ++ b)) told
 took_told None a b = refl
-took_told (Some before) a b = ap (λ (l : List ℕ). Some l) (append_assoc before a b)
+took_told (Some h) a b = ap (λ (l : List ℕ). Some (record { taken = l; idle = h.idle })) (append_assoc h.taken a b)
 
 taking_more : (t : Tape) (a b : List ℕ) → taking b (taking a t) ≡ taking (a ++ b) t
-taking_more t a b = ap (λ (taken : Option (List ℕ)). record { taken = taken; faults = t.faults }) (took_told t.taken a b)
+taking_more t a b = ap (λ (told : Option Heard). record { told = told; faults = t.faults }) (took_told t.told a b)
 
-took_nothing : (taken : Option (List ℕ)) → option_map (λ before. before ++ []) taken ≡ taken
+took_nothing : (told : Option Heard) → option_map (taking_in []) told ≡ told
 took_nothing None = refl
-took_nothing (Some before) = ap (λ (l : List ℕ). Some l) (append-nil before)
+took_nothing (Some h) = ap (λ (l : List ℕ). Some (record { taken = l; idle = h.idle })) (append-nil h.taken)
 
 pub taking_none : (t : Tape) → taking [] t ≡ t
-taking_none t = ap (λ (taken : Option (List ℕ)). record { taken = taken; faults = t.faults }) (took_nothing t.taken)
+taking_none t = ap (λ (told : Option Heard). record { told = told; faults = t.faults }) (took_nothing t.told)
+
+-- a piece that isn't empty is not counted
+heard_some : (first : ℕ) (others : List ℕ) (told : Option Heard) → option_map (hearing (first ∷ others)) told ≡ told
+heard_some first others None = refl
+heard_some first others (Some h) = refl
+
+pub offered_some : (piece : List ℕ) (t : Tape) → 0 < length piece → offered piece t ≡ t
+offered_some [] t some = absurd (omega (arith, some))
+offered_some (first ∷ others) t some = ap (λ (told : Option Heard). record { told = told; faults = t.faults }) (heard_some first others t.told)
 
 -- the piece is what is left of the text
-pub took_on : (text : List ℕ) (at n : ℕ) (old mid : Tape) → mid ≡ taking (take at text) old → taking (take n (take (length text - at) (drop at text))) mid ≡ taking (take (at + n) text) old
-took_on text at n old mid is =
-    ap (λ (l : List ℕ). taking (take n l) mid) (take_rest text at) ∙ ap (taking (take n (drop at text))) is ∙ taking_more old (take at text) (take n (drop at text))
+left_over : (text : List ℕ) (at : ℕ) → at < length text → 0 < length (take (length text - at) (drop at text))
+left_over text at less =
+    let long : length (drop at text) ≡ length text - at = length-drop at text in
+    omega (arith, length-take-le (length text - at) (drop at text) (omega (arith, long)))
+
+pub took_on : (text : List ℕ) (at n : ℕ) (old mid : Tape) → at < length text → mid ≡ taking (take at text) old
+    → taking (take n (take (length text - at) (drop at text))) (offered (take (length text - at) (drop at text)) mid) ≡ taking (take (at + n) text) old
+took_on text at n old mid less is =
+    ap (taking (take n (take (length text - at) (drop at text)))) (offered_some (take (length text - at) (drop at text)) mid (left_over text at less))
+    ∙ ap (λ (l : List ℕ). taking (take n l) mid) (take_rest text at) ∙ ap (taking (take n (drop at text))) is ∙ taking_more old (take at text) (take n (drop at text))
     ∙ ap (λ (l : List ℕ). taking l old) (sym (take-add at n text))
 
 -- what has been read so far is one piece more of the file; post is what stands after the piece
@@ -137,5 +155,66 @@ written_first at from is =
 
 pub offers_front : (text : List ℕ) (at : ℕ) (fault : WriteFault) (old mid new : Tape) → at < length text → mid ≡ taking (take at text) old
     → Takes (take (length text - at) (drop at text)) mid new (Err (write_fault_of fault)) → Offers text old new (Err (write_fault_of fault))
-offers_front text at write.Failed old mid new less so_far (n, is) = (at + n, is ∙ ap failing (took_on text at n old mid so_far))
-offers_front text at write.Memory old mid new less so_far is = (at, less, is ∙ so_far)
+offers_front text at write.Failed old mid new less so_far (n, is) = (omega (arith, less), (at + n, is ∙ ap failing (took_on text at n old mid less so_far)))
+offers_front text at write.Memory old mid new less so_far is =
+    (at, less, is ∙ offered_some (take (length text - at) (drop at text)) mid (left_over text at less) ∙ so_far)
+
+-- ---- the calls of a read in whole
+
+-- what is told after n bytes by some calls
+pub told_now : (old now : Disk) (n calls : ℕ) (t : Told) → now ≡ read n (ticked calls old) → old.told ≡ Some t → now.told ≡ Some (reading n (ticking calls t))
+told_now old now n calls t is told = ap (λ (d : Disk). d.told) is ∙ ap (λ (o : Option Told). option_map (reading n) (option_map (ticking calls) o)) told
+
+-- How a read in whole stands before another call: none was made yet, or one that gave all that there is.
+pub record SoFar (name : List ℕ) (size at calls : ℕ) (t : Told) : Type 0 where
+  pub number : calls ≡ min 1 at
+  pub given : 0 < at → at ≡ min size (length (bytes_of (t.holds name)))
+  pub listed : NoneListed calls t
+
+pub none_so_far : (name : List ℕ) (size : ℕ) (t : Told) → SoFar name size 0 0 t
+none_so_far name size t = record { number = refl; given = λ some. absurd (omega (arith, some)); listed = λ k less. absurd (omega (arith, less)) }
+
+pub one_more : (calls : ℕ) (t : Told) → NoneListed calls t → (IsTrue (is_listed (ticking calls t)) → ⊥) → NoneListed (calls + 1) t
+one_more calls t before now k less = elim (cases_lt k calls) [
+  | inl earlier ↦ before k earlier
+  | inr last ↦ let e : calls ≡ k = omega (arith, less, last) in subst (λ (k : ℕ). IsTrue (is_listed (ticking k t)) → ⊥) e now
+]
+
+number_at_end : (size found at n calls : ℕ) → at < size → calls ≡ min 1 at → (0 < at → at ≡ min size found) → n ≡ min (size - at) (found - at) → n ≡ 0 → calls + 1 ≡ calls_for size found
+number_at_end size found zero n calls less is given count none = omega (arith, less, is, count, none)
+number_at_end size found (suc at) n calls less is given count none = let all = given (omega arith) in omega (arith, less, is, all, count, none)
+
+pub ends_so : (name : List ℕ) (size at n calls : ℕ) (t : Told) → SoFar name size at calls t → at < size → n ≡ min (size - at) (length (bytes_of (t.holds name)) - at) → n ≡ 0
+    → (IsTrue (is_listed (ticking calls t)) → ⊥) → WholeBy name size (calls + 1) t
+ends_so name size at n calls t so_far less count none now = record {
+  number = number_at_end size (length (bytes_of (t.holds name))) at n calls less so_far.number so_far.given count none;
+  listed = one_more calls t so_far.listed now;
+}
+
+number_at_full : (size found at calls : ℕ) → at ≡ size → calls ≡ min 1 at → (0 < at → at ≡ min size found) → calls ≡ calls_for size found
+number_at_full size found zero calls full is given = omega (arith, full, is)
+number_at_full size found (suc at) calls full is given = let all = given (omega arith) in omega (arith, full, is, all)
+
+pub full_so : (name : List ℕ) (size at calls : ℕ) (t : Told) → SoFar name size at calls t → at ≡ size → WholeBy name size calls t
+full_so name size at calls t so_far full = record { number = number_at_full size (length (bytes_of (t.holds name))) at calls full so_far.number so_far.given; listed = so_far.listed }
+
+-- only the first call gives something
+first_alone : (size found at n : ℕ) → at < size → (0 < at → at ≡ min size found) → n ≡ min (size - at) (found - at) → 0 < n → at ≡ 0
+first_alone size found zero n less given count some = refl
+first_alone size found (suc at) n less given count some = let all = given (omega arith) in absurd (omega (arith, less, all, count, some))
+
+pub goes_so : (name : List ℕ) (size at n calls : ℕ) (t : Told) → SoFar name size at calls t → at < size → n ≡ min (size - at) (length (bytes_of (t.holds name)) - at) → 0 < n
+    → (IsTrue (is_listed (ticking calls t)) → ⊥) → SoFar name size (at + n) (calls + 1) t
+goes_so name size at n calls t so_far less count some now =
+    let start = first_alone size (length (bytes_of (t.holds name))) at n less so_far.given count some in
+    record { number = omega (arith, so_far.number, start, some); given = λ more. omega (arith, start, count); listed = one_more calls t so_far.listed now }
+
+given_whole : (size found at : ℕ) → at < size → (0 < at → at ≡ min size found) → 0 < at → at ≡ found
+given_whole size found at less given some = omega (arith, less, given some)
+
+pub fails_so : (name : List ℕ) (size at calls : ℕ) (t : Told) → SoFar name size at calls t → at < size → StoppedBy name at (calls + 1) t
+fails_so name size at calls t so_far less = record {
+  number = omega (arith, so_far.number);
+  given = given_whole size (length (bytes_of (t.holds name))) at less so_far.given;
+  listed = let e : calls ≡ calls + 1 - 1 = omega arith in subst (λ (k : ℕ). NoneListed k t) e so_far.listed;
+}

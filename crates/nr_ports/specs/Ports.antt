@@ -4,10 +4,6 @@ use Rattle.std.specs.List.{list_any}
 use Rattle.std.specs.Str.{bytes_eq}
 use Rattle.nr_spec_plans.specs.Disk.{Contents, Disk, Told, Tape, more}
 
--- one more, up to the greatest u64
-abbrev pub raised : ℕ → ℕ
-raised count = more 1 count
-
 -- numbered calls, from 1 on
 pub record Numbering : Type 0 where
   pub failing : List ℕ  -- the numbers of the calls that are to fail
@@ -15,15 +11,15 @@ pub record Numbering : Type 0 where
 
 -- whether the next call is to fail
 abbrev pub fails_next : Numbering → Bool
-fails_next calls = list_any (λ number. number == raised calls.made) calls.failing
+fails_next calls = list_any (λ number. number == more 1 calls.made) calls.failing
 
 -- one call later
 abbrev pub counted : Numbering → Numbering
-counted calls = record { failing = calls.failing; made = raised calls.made }
+counted calls = record { failing = calls.failing; made = more 1 calls.made }
 
 -- how many faults there are after the next call
 abbrev pub faults_after : Numbering → ℕ → ℕ
-faults_after calls faults = if fails_next calls then raised faults else faults
+faults_after calls faults = if fails_next calls then more 1 faults else faults
 
 -- one number more that is to fail
 abbrev pub listed : ℕ → Numbering → Numbering
@@ -95,6 +91,7 @@ pub record MemorySink : Type 0 where
   pub bytes : List ℕ
   pub calls : Numbering
   pub faults : ℕ
+  pub idle : ℕ  -- how often no byte was offered
 
 -- ---- what they tell
 
@@ -113,4 +110,4 @@ abbrev pub disk_of : MemoryFiles → Disk
 disk_of m = record { told = Some (told_of m); read_faults = m.read_faults; write_faults = m.write_faults }
 
 abbrev pub tape_of : MemorySink → Tape
-tape_of s = record { taken = Some s.bytes; faults = s.faults }
+tape_of s = record { told = Some (record { taken = s.bytes; idle = s.idle }); faults = s.faults }

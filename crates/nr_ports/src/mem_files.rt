@@ -1,8 +1,8 @@
 //! Files in memory.
 
 ghost use Rattle.std.specs.Prelude.{◌≡◌, ◌≤◌, ◌↔◌, false, [], Some, option_map, length, is_err, IsTrue, IsErr, IfOk, OnOk, OnErr, IsErrOf};
-ghost use Rattle.nr_spec_plans.specs.Disk.{Asks, GivesAt, Writes, Cuts, Syncs, bytes_of, written, cut_to};
-ghost use Rattle.nr_ports.specs.Ports.{MemoryFiles, raised, held_in, settled, with_file, with_held, holding, calling, listed, counted, fails_next, after_reading, disk_of};
+ghost use Rattle.nr_spec_plans.specs.Disk.{Asks, GivesAt, Writes, Cuts, Syncs, bytes_of, written, cut_to, more};
+ghost use Rattle.nr_ports.specs.Ports.{MemoryFiles, held_in, settled, with_file, with_held, holding, calling, listed, counted, fails_next, after_reading, disk_of};
 ghost use Rattle.nr_ports.specs.Views.{by_reading, by_writing};
 
 use crate::calls::Calls;
@@ -101,7 +101,7 @@ impl MemFiles {
     // Counts a call that writes as one that failed.
     fn fail_writing(&mut self) -> WriteFault
         ensures fault { result ≡ WriteFault.Failed }
-        ensures after { self.new ≡ record { files = self.old.files; calls = self.old.calls; read_faults = self.old.read_faults; write_faults = raised self.old.write_faults; asks = self.old.asks; reads = self.old.reads } }
+        ensures after { self.new ≡ record { files = self.old.files; calls = self.old.calls; read_faults = self.old.read_faults; write_faults = more 1 self.old.write_faults; asks = self.old.asks; reads = self.old.reads } }
     {
         self.write_faults = raise(1, self.write_faults);
         WriteFault::Failed

@@ -1,6 +1,7 @@
 //! A sink in memory.
 
 ghost use Rattle.std.specs.Prelude.{◌≡◌, ◌↔◌, ◌++◌, [], Some, length, IsTrue, IfOk, OnOk, OnErr, IsErrOf};
+ghost use Rattle.nr_spec_plans.specs.Disk.{idle_after};
 ghost use Rattle.nr_ports.specs.Ports.{MemorySink, listed, counted, faults_after, fails_next};
 
 use crate::calls::Calls;
@@ -18,6 +19,7 @@ pub struct MemSink {
     bytes: Vec<u8>,
     calls: Calls,
     faults: u64,
+    idle: u64,
 }
 
 impl Model for MemSink {
@@ -25,18 +27,19 @@ impl Model for MemSink {
 
     ghost Value = { MemorySink };
 
-    ghost view = { λ s. record { bytes = s.bytes.items; calls = s.calls; faults = s.faults } };
+    ghost view = { λ s. record { bytes = s.bytes.items; calls = s.calls; faults = s.faults; idle = s.idle } };
 }
 
 impl MemSink {
     /// Nothing taken, no call and no fault.
     pub fn new(alloc: Global) -> MemSink
-        ensures { result ≡ record { bytes = []; calls = record { failing = []; made = 0 }; faults = 0 } }
+        ensures { result ≡ record { bytes = []; calls = record { failing = []; made = 0 }; faults = 0; idle = 0 } }
     {
         MemSink {
             bytes: Vec::new(alloc),
             calls: Calls::new(alloc),
             faults: 0,
+            idle: 0,
         }
     }
 
@@ -49,7 +52,7 @@ impl MemSink {
 
     /// Lists a number of a call that is to fail. `Memory` leaves all as it was.
     pub fn fail_call(&mut self, number: u64) -> Result<(), Memory>
-        ensures ok { OnOk result (self.new ≡ record { bytes = self.old.bytes; calls = listed number self.old.calls; faults = self.old.faults }) }
+        ensures ok { OnOk result (self.new ≡ record { bytes = self.old.bytes; calls = listed number self.old.calls; faults = self.old.faults; idle = self.old.idle }) }
         ensures memory { OnErr result (self.new ≡ self.old) }
     {
         self.calls.list(number)
@@ -75,8 +78,12 @@ impl Sink for MemSink {
         ensures taken { OnOk result (self.new.bytes ≡ self.old.bytes ++ piece.now) }
         ensures nothing { OnErr result (self.new.bytes ≡ self.old.bytes) }
         ensures calls { self.new.calls ≡ counted self.old.calls }
+        ensures idle { self.new.idle ≡ idle_after piece.now self.old.idle }
         ensures faults { self.new.faults ≡ faults_after self.old.calls self.old.faults }
     {
+        if piece.is_empty() {
+            self.idle = raise(1, self.idle);
+        }
         if self.calls.begin() {
             self.faults = raise(1, self.faults);
             return Err(WriteFault::Failed);

@@ -1,5 +1,5 @@
 -- The laws of plans.
-use Rattle.std.proofs.Common.{◌≡◌, ◌≢◌, ℕ, List, Option, None, Some, Result, Ok, Err, refl, sym, ap, subst, ◌∙◌, inl, inr, ◌⊎◌, ⊎_elim}
+use Rattle.std.proofs.Common.{◌≡◌, ◌≢◌, ℕ, List, Option, None, Some, Result, Ok, Err, refl, ap, subst, ◌∙◌, inl, inr, ◌⊎◌, ⊎_elim}
 use Rattle.std.proofs.Common.{[], ◌++◌, ◌+◌}
 use Rattle.std.proofs.lemmas.List.{append-nil}
 use Rattle.std.proofs.Math.Seq.{drop-nil}
@@ -8,9 +8,9 @@ use Rattle.nr_spec_plans.specs.Plans.{save}
 use Rattle.nr_spec_plans.specs.Laws.{Saved, Spares, Kept, Ends}
 use Rattle.std.proofs.Common.{Bool}
 use Rattle.nr_spec_plans.specs.Disk.{Leaves}
-use Rattle.std.specs.Prelude.{option_map, IfOk, length, take}
-use Rattle.nr_spec_plans.specs.Disk.{Disk, Told, Fault, ReadFault, WriteFault, Memory, Asks, Writing, counting, telling, asked, asking, read, reading, ticking, bytes_of, Contents}
-use Rattle.nr_spec_plans.specs.Plans.{Action, Answer, Acts, Ask, Read, Cut, Write, Sync, Plan, Done, Refuse, Room, Act, Halt, Refused, Faulted, Goes, Runs, Reads, followed_by}
+use Rattle.std.specs.Prelude.{option_map, length}
+use Rattle.nr_spec_plans.specs.Disk.{Disk, Told, Fault, ReadFault, WriteFault, Memory, Writing, counting, telling, asked, asking, reading, ticking, bytes_of, Contents}
+use Rattle.nr_spec_plans.specs.Plans.{Action, Answer, Acts, Ask, Read, Cut, Write, Sync, Plan, Done, Refuse, Room, Act, Halt, Refused, Faulted, Runs, followed_by}
 use Rattle.nr_spec_plans.specs.Laws.{CountsOne, reads_after, writes_after, fault_in, IsRead, Each, Unchanged, answer_of, outcome, Gives}
 
 -- ---- causes
@@ -30,18 +30,18 @@ counting_writes (Err Memory) d = refl
 -- a step counts its own fault and nothing else
 pub step_reads : (action : Action) (old new : Disk) (got : Result (Answer action) Fault) → Acts action old new got → new.read_faults ≡ reads_after got old.read_faults
 step_reads (Ask name) old new got acts = ap (λ (d : Disk). d.read_faults) acts.after ∙ counting_reads got (asked old)
-step_reads (Read name size) old new (Ok bytes) acts = ap (λ (d : Disk). d.read_faults) acts.2.1
+step_reads (Read name size) old new (Ok bytes) acts = ap (λ (d : Disk). d.read_faults) acts.0.after
 step_reads (Read name size) old new (Err fault) (inl (is, same)) = rw is (ap (λ (d : Disk). d.read_faults) same)
-step_reads (Read name size) old new (Err fault) (inr (is, (n, within, calls, after))) = rw is (ap (λ (d : Disk). d.read_faults) after)
+step_reads (Read name size) old new (Err fault) (inr stops) = rw stops.cause (ap (λ (d : Disk). d.read_faults) stops.after)
 step_reads (Cut name len) old new got acts = ap (λ (d : Disk). d.read_faults) acts.after ∙ counting_reads got (telling new.told old)
 step_reads (Write name at bytes) old new got acts = ap (λ (d : Disk). d.read_faults) acts.after ∙ counting_reads got (telling new.told old)
 step_reads (Sync name) old new got acts = ap (λ (d : Disk). d.read_faults) acts.after ∙ counting_reads got (telling new.told old)
 
 pub step_writes : (action : Action) (old new : Disk) (got : Result (Answer action) Fault) → Acts action old new got → new.write_faults ≡ writes_after got old.write_faults
 step_writes (Ask name) old new got acts = ap (λ (d : Disk). d.write_faults) acts.after ∙ counting_writes got (asked old)
-step_writes (Read name size) old new (Ok bytes) acts = ap (λ (d : Disk). d.write_faults) acts.2.1
+step_writes (Read name size) old new (Ok bytes) acts = ap (λ (d : Disk). d.write_faults) acts.0.after
 step_writes (Read name size) old new (Err fault) (inl (is, same)) = rw is (ap (λ (d : Disk). d.write_faults) same)
-step_writes (Read name size) old new (Err fault) (inr (is, (n, within, calls, after))) = rw is (ap (λ (d : Disk). d.write_faults) after)
+step_writes (Read name size) old new (Err fault) (inr stops) = rw stops.cause (ap (λ (d : Disk). d.write_faults) stops.after)
 step_writes (Cut name len) old new got acts = ap (λ (d : Disk). d.write_faults) acts.after ∙ counting_writes got (telling new.told old)
 step_writes (Write name at bytes) old new got acts = ap (λ (d : Disk). d.write_faults) acts.after ∙ counting_writes got (telling new.told old)
 step_writes (Sync name) old new got acts = ap (λ (d : Disk). d.write_faults) acts.after ∙ counting_writes got (telling new.told old)
@@ -91,9 +91,9 @@ counting_told (Err Memory) d = refl
 
 step_unchanged : (action : Action) (old new : Disk) (got : Result (Answer action) Fault) → IsRead action → Acts action old new got → Unchanged old.told new.told
 step_unchanged (Ask name) old new got is acts = still _ (ask_still old.told) (ap (λ (d : Disk). d.told) acts.after ∙ counting_told got (asked old))
-step_unchanged (Read name size) old new (Ok bytes) is acts = still _ (read_still (length bytes) acts.2.0 old.told) (ap (λ (d : Disk). d.told) acts.2.1)
+step_unchanged (Read name size) old new (Ok bytes) is acts = still _ (read_still (length bytes) acts.0.calls old.told) (ap (λ (d : Disk). d.told) acts.0.after)
 step_unchanged (Read name size) old new (Err fault) is (inl (f, same)) = still _ (none_changed _) (ap (λ (d : Disk). d.told) same)
-step_unchanged (Read name size) old new (Err fault) is (inr (f, (n, within, calls, after))) = still _ (read_still n calls old.told) (ap (λ (d : Disk). d.told) after)
+step_unchanged (Read name size) old new (Err fault) is (inr stops) = still _ (read_still stops.n stops.calls old.told) (ap (λ (d : Disk). d.told) stops.after)
 step_unchanged (Cut name len) old new got is acts = absurd is
 step_unchanged (Write name at bytes) old new got is acts = absurd is
 step_unchanged (Sync name) old new got is acts = absurd is
@@ -172,7 +172,6 @@ three name bytes t a b c cut wrote synced = record {
   holds = synced.changes.named ∙ wrote.named ∙ written-cut bytes (t.holds name) (a.holds name) cut.named;
   synced = synced.synced;
   others = λ other ne. synced.changes.others other ne ∙ wrote.others other ne ∙ cut.others other ne;
-  asks = synced.changes.asks ∙ wrote.asks ∙ cut.asks;
 }
 
 pub saved : (E : Type 0) (name bytes : List ℕ) (old new : Disk) (t : Told) → old.told ≡ Some t → Runs {E = E} (save name bytes) old new (Ok tt) → (u : Told) × (new.told ≡ Some u) × Saved name bytes t u

@@ -1,9 +1,9 @@
 -- Plans one after another.
-use Rattle.std.proofs.Common.{◌≡◌, ℕ, List, Result, Ok, Err, refl, sym, ap, subst, ◌∙◌}
+use Rattle.std.proofs.Common.{◌≡◌, Result, Ok, Err, refl, sym, ap, subst, ◌∙◌}
 use Rattle.std.proofs.Common.{inl, inr}
 use Rattle.nr_spec_plans.specs.Plans.{Room, want, refusing, halting}
 use Rattle.nr_spec_plans.specs.Disk.{Memory, Disk, Fault}
-use Rattle.nr_spec_plans.specs.Plans.{Action, Answer, Acts, Plan, Done, Refuse, Act, Halt, Refused, Faulted, followed_by, ◌>>=◌, Goes, Runs, act}
+use Rattle.nr_spec_plans.specs.Plans.{Action, Answer, Acts, Plan, Done, Refuse, Act, Halt, Refused, Faulted, followed_by, ◌>>=◌, Runs, act}
 
 -- a step that went well, and the next
 pub acted : {E B : Type 0} (action : Action) (f : Answer action → Plan E B) (old mid new : Disk) (answer : Answer action) (result : Result B (Halt E))

@@ -2,8 +2,8 @@
 use Rattle.std.proofs.Common.{◌≡◌, ◌≢◌, ℕ, ◌+◌, List, [], ◌++◌, length, Option, None, Some, Result, Ok, Err, refl, sym, ap, subst, ◌∙◌, inl, inr, ◌⊎◌, ⊎_elim, arith}
 use Rattle.std.proofs.lemmas.List.{append-nil}
 use Rattle.std.proofs.Math.Seq.{drop-nil}
-use Rattle.nr_spec_plans.specs.Disk.{Disk, Told, Fault, ReadFault, WriteFault, Memory, Writing, Leaves, ChangesOnly, IsSynced, Torn, TornCut, TornWrite, cut_to, written, bytes_of, ticking, counting}
-use Rattle.nr_spec_plans.specs.Plans.{Plan, Done, Refuse, Room, Act, Action, Answer, Ask, Read, Cut, Write, Sync, Halt, Refused, Faulted, Runs, Reads, save, followed_by}
+use Rattle.nr_spec_plans.specs.Disk.{Disk, Told, Fault, ReadFault, WriteFault, Memory, Writing, Leaves, ChangesOnly, IsSynced, Torn, TornCut, TornWrite, cut_to, written, bytes_of, ticking}
+use Rattle.nr_spec_plans.specs.Plans.{Plan, Done, Refuse, Room, Act, Ask, Read, Cut, Write, Sync, Halt, Faulted, Runs, save, followed_by}
 use Rattle.nr_spec_plans.specs.Laws.{Each, IsRead, IsLeftBy, outcome, answer_of}
 
 -- ---- what stops a plan
@@ -36,7 +36,7 @@ reads_alone (Act (Ask name) next) old new result (kind, each) (mid, Err ReadFaul
 reads_alone (Act (Ask name) next) old new result (kind, each) (mid, Err WriteFault, acts, (same, is)) = λ e. absurd acts.cause
 reads_alone (Act (Ask name) next) old new result (kind, each) (mid, Err Memory, acts, (same, is)) = λ e. absurd cc
 reads_alone (Act (Read name size) next) old new result (kind, each) (mid, Err fault, inl (f, rest), (same, is)) = λ e. absurd cc
-reads_alone (Act (Read name size) next) old new result (kind, each) (mid, Err fault, inr (f, rest), (same, is)) = λ e. absurd cc
+reads_alone (Act (Read name size) next) old new result (kind, each) (mid, Err fault, inr stops, (same, is)) = let f = stops.cause in λ e. absurd cc
 reads_alone (Act (Cut name len) next) old new result (kind, each) runs = absurd kind
 reads_alone (Act (Write name at bytes) next) old new result (kind, each) runs = absurd kind
 reads_alone (Act (Sync name) next) old new result (kind, each) runs = absurd kind

@@ -1,6 +1,6 @@
 -- What files and a sink stand for, and what each call does to that.
 use Rattle.std.specs.Prelude.{◌≡◌, ◌≢◌, ℕ, ◌+◌, ◌-◌, ◌^◌, ◌≤◌, ◌<◌, ◌==◌, min, max, Bool, false, if◌then◌else◌, IsTrue}
-use Rattle.std.specs.Prelude.{List, [], ◌++◌, length, take, drop, Option, None, Some, IsSome, unwrap_or, option_map, Result, Ok, Err, IfOk, IsErr}
+use Rattle.std.specs.Prelude.{List, [], ◌∷◌, ◌++◌, length, take, drop, Option, None, Some, IsSome, unwrap_or, option_map, Result, Ok, Err, IfOk, IsErr}
 use Rattle.std.specs.List.{list_any}
 
 -- what each name holds, or None where no file has it
@@ -195,33 +195,54 @@ Syncs name = Writing (λ t u. IsSynced name t u) (λ t u. u ≡ ticking 1 t)
 
 -- ---- a sink
 
+-- what a sink tells of itself
+pub record Heard : Type 0 where
+  -- the bytes taken so far
+  pub taken : List ℕ
+  -- how often no byte was offered
+  pub idle : ℕ
+
 -- all that a sink stands for
 pub record Tape : Type 0 where
-  -- the bytes taken so far, where they are told
-  pub taken : Option (List ℕ)
+  -- what it tells; the real output tells nothing
+  pub told : Option Heard
   -- how often a call has failed
   pub faults : ℕ
 
+-- a piece was offered: one without bytes is counted
+abbrev pub idle_after : List ℕ → ℕ → ℕ
+idle_after [] idle = more 1 idle
+idle_after (first ∷ others) idle = idle
+
+abbrev pub hearing : List ℕ → Heard → Heard
+hearing piece h = record { taken = h.taken; idle = idle_after piece h.idle }
+
+abbrev pub offered : List ℕ → Tape → Tape
+offered piece t = record { told = option_map (hearing piece) t.told; faults = t.faults }
+
 -- these bytes more were taken
+abbrev pub taking_in : List ℕ → Heard → Heard
+taking_in piece h = record { taken = h.taken ++ piece; idle = h.idle }
+
 abbrev pub taking : List ℕ → Tape → Tape
-taking piece t = record { taken = option_map (λ before. before ++ piece) t.taken; faults = t.faults }
+taking piece t = record { told = option_map (taking_in piece) t.told; faults = t.faults }
 
 -- a call more has failed
 abbrev pub failing : Tape → Tape
-failing t = record { taken = t.taken; faults = more 1 t.faults }
+failing t = record { told = t.told; faults = more 1 t.faults }
 
--- A sink took the first n bytes of a piece, one at least where it isn't empty; some first bytes where it failed; and none
--- where it found no memory.
+-- A sink was offered a piece. It took its first n bytes, one at least where it isn't empty; some first bytes where it failed; and
+-- none where it found no memory.
 abbrev pub Takes : List ℕ → Tape → Tape → Result ℕ Fault → Type 0
-Takes piece old new (Ok n) = (n ≤ length piece) × (0 < length piece → 0 < n) × (new ≡ taking (take n piece) old)
+Takes piece old new (Ok n) = (n ≤ length piece) × (0 < length piece → 0 < n) × (new ≡ taking (take n piece) (offered piece old))
 Takes piece old new (Err ReadFault) = ⊥
-Takes piece old new (Err WriteFault) = (n : ℕ) × (new ≡ failing (taking (take n piece) old))
-Takes piece old new (Err Memory) = new ≡ old
+Takes piece old new (Err WriteFault) = (n : ℕ) × (new ≡ failing (taking (take n piece) (offered piece old)))
+Takes piece old new (Err Memory) = new ≡ offered piece old
 
--- A sink was offered a text: it took it whole; or it failed, or found no memory, and took some first bytes, in the last
--- case not all. Nothing more was offered then.
+-- A sink was offered a text, piece after piece and none of them empty: it took it whole; or it failed, or found no memory, and
+-- took some first bytes, in the last case not all. Nothing more was offered then, and a text without bytes was not offered.
 abbrev pub Offers : List ℕ → Tape → Tape → Result (Unit {0}) Fault → Type 0
 Offers text old new (Ok x) = new ≡ taking text old
 Offers text old new (Err ReadFault) = ⊥
-Offers text old new (Err WriteFault) = (n : ℕ) × (new ≡ failing (taking (take n text) old))
+Offers text old new (Err WriteFault) = (0 < length text) × ((n : ℕ) × (new ≡ failing (taking (take n text) old)))
 Offers text old new (Err Memory) = (n : ℕ) × (n < length text) × (new ≡ taking (take n text) old)

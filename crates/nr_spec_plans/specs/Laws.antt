@@ -1,7 +1,7 @@
 -- What holds of every plan, or of every plan of a kind.
-use Rattle.std.specs.Prelude.{◌≡◌, ◌≢◌, ◌⊎◌, ℕ, Bool, false, List, [], ◌∷◌, Option, None, Some, Result, Ok, Err, option_map, take, length}
+use Rattle.std.specs.Prelude.{◌≡◌, ◌≢◌, ◌⊎◌, ℕ, false, List, [], ◌∷◌, Option, Some, Result, Ok, Err, option_map, take, length}
 use Rattle.nr_spec_plans.specs.Disk.{Contents, Disk, Told, Fault, more, bytes_of, ReadFault, WriteFault, Memory, Torn, TornCut, TornWrite}
-use Rattle.nr_spec_plans.specs.Plans.{Action, Answer, Ask, Read, Cut, Write, Sync, Plan, Done, Refuse, Room, Act, Halt, Refused, Faulted, Runs, save}
+use Rattle.nr_spec_plans.specs.Plans.{Action, Answer, Ask, Read, Cut, Write, Sync, Plan, Done, Refuse, Room, Act, Halt, Refused, Faulted}
 
 -- ---- causes
 
@@ -77,7 +77,6 @@ pub record Saved (name bytes : List ℕ) (t u : Told) : Type 0 where
   pub holds : u.holds name ≡ Some bytes
   pub synced : u.is_pending name ≡ false
   pub others : (other : List ℕ) → other ≢ name → u.holds other ≡ t.holds other
-  pub asks : u.asks ≡ t.asks
 
 -- ---- files that a plan leaves alone
 

@@ -1,6 +1,6 @@
 -- What a command does with files, as a tree of steps.
-use Rattle.std.specs.Prelude.{◌≡◌, ◌⊎◌, ℕ, ◌≤◌, List, take, length, Option, Some, None, Result, Ok, Err, IfOk}
-use Rattle.nr_spec_plans.specs.Disk.{Disk, Told, Fault, ReadFault, Memory, Asks, Cuts, Writes, Syncs, asked, read, ticked, counting, bytes_of}
+use Rattle.std.specs.Prelude.{◌≡◌, ◌⊎◌, ℕ, ◌+◌, ◌-◌, ◌≤◌, ◌<◌, min, IsTrue, List, take, length, Option, Some, Result, Ok, Err}
+use Rattle.nr_spec_plans.specs.Disk.{Disk, Told, Fault, ReadFault, Memory, Asks, Cuts, Writes, Syncs, read, ticked, ticking, is_listed, counting, bytes_of}
 
 -- a step outside
 pub data Action : Type 0 where
@@ -23,19 +23,53 @@ Answer (Cut name len) = Unit {0}
 Answer (Write name at bytes) = Unit {0}
 Answer (Sync name) = Unit {0}
 
+-- how many calls it takes to read a file of a length up to a size: none for nothing, one that gives all that fits, and one more
+-- that finds the end where this is something, and less than the size
+abbrev pub calls_for : (size found : ℕ) → ℕ
+calls_for size found = min 1 size + min 1 (min found (size - found))
+
+-- None of the next calls is one that is to fail.
+abbrev pub NoneListed : (calls : ℕ) → Told → Type 0
+NoneListed calls t = (k : ℕ) → k < calls → IsTrue (is_listed (ticking k t)) → ⊥
+
+-- So many calls read a file up to a size, all of this name and no more than it takes.
+pub record WholeBy (name : List ℕ) (size calls : ℕ) (t : Told) : Type 0 where
+  pub number : calls ≡ calls_for size (length (bytes_of (t.holds name)))
+  pub listed : NoneListed calls t
+
+-- The last of so many calls failed: the first, or the second, which found the end where the first gave all that there is.
+pub record StoppedBy (name : List ℕ) (n calls : ℕ) (t : Told) : Type 0 where
+  pub number : calls ≡ 1 + min 1 n
+  pub given : 0 < n → n ≡ length (bytes_of (t.holds name))
+  pub listed : NoneListed (calls - 1) t
+
+-- Calls that read failed at last, after n bytes.
+pub record StopsReading (name : List ℕ) (size : ℕ) (old new : Disk) (fault : Fault) : Type 0 where
+  pub cause : fault ≡ ReadFault
+  pub n : ℕ
+  pub calls : ℕ
+  pub within : n < size
+  pub told : (t : Told) → old.told ≡ Some t → StoppedBy name n calls t
+  pub after : new ≡ counting {A = List ℕ} (Err ReadFault) (read n (ticked calls old))
+
+-- Calls that read gave n bytes in all, as many as there are up to the size.
+pub record ReadsUpTo (name : List ℕ) (size n : ℕ) (old new : Disk) : Type 0 where
+  pub calls : ℕ
+  pub within : n ≤ size
+  pub told : (t : Told) → old.told ≡ Some t → WholeBy name size calls t
+  pub after : new ≡ read n (ticked calls old)
+
 -- The bytes of a file up to a size; or want of memory, before anything is read; or a fault after some bytes.
 abbrev pub Reads : (name : List ℕ) (size : ℕ) → Disk → Disk → Result (List ℕ) Fault → Type 0
 Reads name size old new (Ok bytes) =
-    (length bytes ≤ size) × ((t : Told) → old.told ≡ Some t → bytes ≡ take size (bytes_of (t.holds name))) × ((calls : ℕ) × (new ≡ read (length bytes) (ticked calls old)))
-Reads name size old new (Err fault) =
-    ((fault ≡ Memory) × (new ≡ old)) ⊎ ((fault ≡ ReadFault) × ((n : ℕ) × (n ≤ size) × (calls : ℕ) × (new ≡ counting {A = List ℕ} (Err ReadFault) (read n (ticked calls old)))))
+    ReadsUpTo name size (length bytes) old new × ((t : Told) → old.told ≡ Some t → bytes ≡ take size (bytes_of (t.holds name)))
+Reads name size old new (Err fault) = ((fault ≡ Memory) × (new ≡ old)) ⊎ StopsReading name size old new fault
 
 -- The same into a buffer, whose first n bytes are those of the file then.
 abbrev pub Fills : (name : List ℕ) (size : ℕ) (buffer : List ℕ) → Disk → Disk → Result ℕ Fault → Type 0
 Fills name size buffer old new (Ok n) =
-    (n ≤ size) × ((t : Told) → old.told ≡ Some t → take n buffer ≡ take size (bytes_of (t.holds name))) × ((calls : ℕ) × (new ≡ read n (ticked calls old)))
-Fills name size buffer old new (Err fault) =
-    (fault ≡ ReadFault) × ((n : ℕ) × (n ≤ size) × (calls : ℕ) × (new ≡ counting {A = List ℕ} (Err ReadFault) (read n (ticked calls old))))
+    ReadsUpTo name size n old new × ((t : Told) → old.told ≡ Some t → take n buffer ≡ take size (bytes_of (t.holds name)))
+Fills name size buffer old new (Err fault) = StopsReading name size old new fault
 
 -- what a step does
 abbrev pub Acts : (a : Action) → Disk → Disk → Result (Answer a) Fault → Type 0

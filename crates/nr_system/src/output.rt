@@ -20,7 +20,7 @@ impl<W: Write + Drop> Output<W> {
 }
 
 impl<W: Write + Drop> Sink for Output<W> {
-    ghost tape = { λ s. record { taken = None; faults = s.faults } };
+    ghost tape = { λ s. record { told = None; faults = s.faults } };
 
     // A writer that takes nothing of a piece is at fault.
     fn write(&mut self, piece: &[u8]) -> Result<usize, WriteFault> {
