@@ -4,7 +4,3 @@ pub mod LinkLemmas
 pub mod WordLemmas
 pub mod AuditWordLemmas
 pub mod ReportLemmas
-pub mod PlanKinds
-pub mod StatusLaws
-pub mod FileLaws
-pub mod FileOrder

@@ -5,7 +5,7 @@ use Rattle.std.proofs.lemmas.Bool.{leb-true}
 use Rattle.nr_spec_plans.specs.Disk.{Disk}
 use Rattle.nr_spec_plans.specs.Plans.{Done, Room, Refuse, Runs, act, Read, ◌>>=◌, followed_by}
 use Rattle.nr_spec_plans.proofs.PlanLemmas.{done, refused}
-use Rattle.netreview.specs.Command.{Work, Input, Limit, input_limit, load}
+use Rattle.nr_spec_program.specs.Command.{Work, Input, Limit, input_limit, load}
 use Rattle.netreview.specs.Views.{Judges, Does}
 use Rattle.netreview.specs.declared.refusal.Stop.{Stop}
 use Rattle.netreview.specs.declared.refusal.Stop.TheVariants as stop

@@ -4,7 +4,7 @@ use Rattle.std.specs.Prelude.{codes}
 use Rattle.std.specs.List.{flat_map}
 use Rattle.nr_spec_log.specs.Authenticator.{Authenticator}
 use Rattle.nr_spec_history.specs.Report.{line, conflict_line}
-use Rattle.netreview.specs.Command.{Ending, report_ending}
+use Rattle.nr_spec_program.specs.Command.{Ending, report_ending}
 
 abbrev pub clean_ending : Ending
 clean_ending = record { status = 0; text = line (codes "clean" ∷ []) }

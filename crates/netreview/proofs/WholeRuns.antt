@@ -3,8 +3,8 @@ use Rattle.std.proofs.Common.{◌≡◌, ℕ, Option, None, Ok, Err, refl, sym, 
 use Rattle.nr_spec_plans.specs.Disk.{Disk, Tape, Memory}
 use Rattle.nr_spec_plans.specs.Plans.{Room, Faulted, Runs}
 use Rattle.nr_spec_commands.specs.Words.{Request}
-use Rattle.netreview.specs.Command.{Work, Ending, plan_in, usage_ending, fault_ending}
-use Rattle.netreview.specs.Running.{RunsTo, Delivers}
+use Rattle.nr_spec_program.specs.Command.{Work, Ending, plan_in, usage_ending, fault_ending}
+use Rattle.nr_spec_program.specs.Running.{RunsTo, Delivers}
 
 -- memory ran out before anything else
 pub out_of_room : (plan : Work Ending) (old : Disk) (before after : Tape) (status : ℕ) (e : Ending) → e ≡ fault_ending Memory → Delivers e before after status → RunsTo (Room plan) old old before after status

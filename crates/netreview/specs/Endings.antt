@@ -6,7 +6,7 @@ use Rattle.nr_spec_history.specs.Report.{conflict_line}
 use Rattle.nr_spec_history.specs.KeyFiles.{Key}
 use Rattle.nr_lamport.specs.declared.seed.Seed.{Seed}
 use Rattle.netreview.specs.declared.key_request.KeygenRequest.{KeygenRequest}
-use Rattle.netreview.specs.Command as command
+use Rattle.nr_spec_program.specs.Command as command
 use Rattle.netreview.specs.declared.ending.Ending as declared_ending
 use Rattle.netreview.specs.declared.ending.Fixed as declared_fixed
 

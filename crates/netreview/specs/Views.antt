@@ -12,8 +12,8 @@ use Rattle.nr_rule_syntax.specs.declared.fault.ParseError.{ParseError}
 use Rattle.nr_rule_syntax.specs.declared.fault.ParseError.TheVariants as parse
 use Rattle.nr_rule_types.specs.declared.fault.TypeError.{TypeError}
 use Rattle.nr_rule_types.specs.declared.fault.TypeError.TheVariants as typing
-use Rattle.netreview.specs.Command as command
-use Rattle.netreview.specs.Promises as promises
+use Rattle.nr_spec_program.specs.Command as command
+use Rattle.nr_spec_program.specs.Promises as promises
 use Rattle.netreview.specs.declared.promise_file.PromiseFile as declared_promise
 use Rattle.netreview.specs.declared.input.Input.{Input}
 use Rattle.netreview.specs.declared.input.Input.TheVariants as input

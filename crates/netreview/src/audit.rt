@@ -3,7 +3,7 @@
 ghost use Rattle.std.specs.Prelude.{IfOk};
 ghost use Rattle.std.specs.String.{string_bytes};
 ghost use Rattle.nr_spec_history.specs.Report.{outcome};
-ghost use Rattle.netreview.specs.Command.{audit_plan, concluded};
+ghost use Rattle.nr_spec_program.specs.Command.{audit_plan, concluded};
 ghost use Rattle.netreview.specs.Views.{Does, Judges};
 ghost use Rattle.netreview.specs.Requests.{audit_request_of, period_of};
 ghost use Rattle.netreview.specs.Endings.{ending_of, Reports};
@@ -12,8 +12,7 @@ use crate::conflicts::conflict_lines;
 use crate::ending::Ending;
 use crate::input::Input;
 use crate::links::link_entries;
-use crate::promise_file::read_promise;
-use crate::reading::{read_answer, read_auths, read_input};
+use crate::reading::{read_answer, read_auths, read_input, read_promise};
 use crate::refusal::{Fact, Refusal, Stop};
 use crate::request::AuditRequest;
 use crate::signatures::is_auth_signed;
@@ -78,7 +77,7 @@ fn judge(
 }
 
 /// What the request gives: the report, or the first thing that stops it.
-#[tactic(auto, using(nr_spec_plans::proofs::PlanLemmas::planning, crate::proofs::PlanSteps::settling), unfolding(crate::specs::Command::audit_plan, nr_spec_plans::specs::Plans::Runs, nr_spec_plans::specs::Plans::followed_by))]
+#[tactic(auto, using(nr_spec_plans::proofs::PlanLemmas::planning, crate::proofs::PlanSteps::settling), unfolding(nr_spec_program::specs::Command::audit_plan, nr_spec_plans::specs::Plans::Runs, nr_spec_plans::specs::Plans::followed_by))]
 pub fn audit<F: Files>(
     alloc: Global,
     files: &mut F,

@@ -1,12 +1,12 @@
 //! The command `check`: the canonical text of a promise file.
 
-ghost use Rattle.netreview.specs.Command.{check_plan};
+ghost use Rattle.nr_spec_program.specs.Command.{check_plan};
 ghost use Rattle.netreview.specs.Views.{Does};
 ghost use Rattle.netreview.specs.Requests.{check_request_of};
 ghost use Rattle.netreview.specs.Endings.{ending_of};
 
 use crate::ending::Ending;
-use crate::promise_file::read_promise;
+use crate::reading::read_promise;
 use crate::refusal::Stop;
 use crate::request::CheckRequest;
 use nr_ports::Files;
@@ -15,7 +15,7 @@ use std::alloc::Global;
 
 /// What the request gives: the canonical text of the promise file, or the first thing that stops it. Nothing is
 /// printed of a file that isn't well typed.
-#[tactic(auto, using(nr_spec_plans::proofs::PlanLemmas::planning), unfolding(crate::specs::Command::check_plan, crate::specs::Command::promise_ending, nr_spec_plans::specs::Plans::Runs, nr_spec_plans::specs::Plans::followed_by))]
+#[tactic(auto, using(nr_spec_plans::proofs::PlanLemmas::planning), unfolding(nr_spec_program::specs::Command::check_plan, nr_spec_program::specs::Command::promise_ending, nr_spec_plans::specs::Plans::Runs, nr_spec_plans::specs::Plans::followed_by))]
 pub fn check_promise<F: Files>(
     alloc: Global,
     files: &mut F,

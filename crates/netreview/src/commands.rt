@@ -1,6 +1,6 @@
 //! The table of commands.
 
-ghost use Rattle.netreview.specs.Command.{plan_of};
+ghost use Rattle.nr_spec_program.specs.Command.{plan_of};
 ghost use Rattle.netreview.specs.Views.{Does};
 ghost use Rattle.netreview.specs.Requests.{request_of};
 ghost use Rattle.netreview.specs.Endings.{ending_of};
@@ -15,7 +15,7 @@ use nr_ports::Files;
 use std::alloc::Global;
 
 /// What a request gives: its ending, or the first thing that stops it.
-#[tactic(auto, unfolding(crate::specs::Command::plan_of))]
+#[tactic(auto, unfolding(nr_spec_program::specs::Command::plan_of))]
 pub fn perform<F: Files>(
     alloc: Global,
     files: &mut F,

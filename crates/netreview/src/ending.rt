@@ -2,7 +2,7 @@
 
 ghost use Rattle.std.specs.Prelude.{◌≡◌, IfOk};
 ghost use Rattle.nr_spec_plans.specs.Disk as disk;
-ghost use Rattle.netreview.specs.Command.{usage_ending, refusal_ending, fault_ending};
+ghost use Rattle.nr_spec_program.specs.Command.{usage_ending, refusal_ending, fault_ending};
 ghost use Rattle.netreview.specs.Views.{refusal_of};
 ghost use Rattle.netreview.specs.Endings.{fixed_of, ending_of};
 
@@ -64,7 +64,7 @@ pub fn out_of_memory() -> Fixed
     }
 }
 
-#[tactic(auto, unfolding(crate::specs::Command::refusal_ending))]
+#[tactic(auto, unfolding(nr_spec_program::specs::Command::refusal_ending))]
 fn fact_ending(alloc: Global, fact: Fact) -> Result<Ending, AllocError>
     ensures { IfOk result (λ e. ending_of e ≡ refusal_ending (refusal_of (Refusal.Refused fact))) }
 {
@@ -88,7 +88,7 @@ fn fact_ending(alloc: Global, fact: Fact) -> Result<Ending, AllocError>
 }
 
 /// The status and the line of a refusal.
-#[tactic(auto, unfolding(crate::specs::Command::refusal_ending))]
+#[tactic(auto, unfolding(nr_spec_program::specs::Command::refusal_ending))]
 pub fn refused(alloc: Global, refusal: Refusal) -> Result<Ending, AllocError>
     ensures { IfOk result (λ e. ending_of e ≡ refusal_ending (refusal_of refusal)) }
 {

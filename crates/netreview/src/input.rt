@@ -1,7 +1,7 @@
 //! The input files of a command.
 
 ghost use Rattle.std.specs.Prelude.{◌≡◌};
-ghost use Rattle.netreview.specs.Command.{input_name, input_limit};
+ghost use Rattle.nr_spec_program.specs.Command.{input_name, input_limit};
 ghost use Rattle.netreview.specs.Views.{input_of};
 
 /// An input file, by what it is for.

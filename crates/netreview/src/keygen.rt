@@ -5,7 +5,7 @@ ghost use Rattle.std.specs.String.{string_bytes};
 ghost use Rattle.hex.specs.Hex.{encode_lower};
 ghost use Rattle.nr_spec_history.specs.KeyFiles.{key_file, key_root};
 ghost use Rattle.nr_spec_history.specs.Report.{line};
-ghost use Rattle.netreview.specs.Command.{keygen_plan, key_plan, key_ending};
+ghost use Rattle.nr_spec_program.specs.Command.{keygen_plan, key_plan, key_ending};
 ghost use Rattle.netreview.specs.Views.{Does};
 ghost use Rattle.netreview.specs.Requests.{keygen_request_of};
 ghost use Rattle.netreview.specs.Endings.{ending_of, key_of};
@@ -54,7 +54,7 @@ fn root_line(alloc: Global, root: &Digest) -> Result<String, AllocError>
 }
 
 // The ending of a key.
-#[tactic(auto, unfolding(crate::specs::Command::key_ending))]
+#[tactic(auto, unfolding(nr_spec_program::specs::Command::key_ending))]
 fn key_ending(alloc: Global, request: &KeygenRequest<'_>, seed: &Seed) -> Result<Ending, Memory>
     ensures { IfOk result (λ e. ending_of e ≡ key_ending (key_of request.now seed.now)) }
 {
@@ -67,7 +67,7 @@ fn key_ending(alloc: Global, request: &KeygenRequest<'_>, seed: &Seed) -> Result
 }
 
 // The seed of the key that is asked for.
-#[tactic(auto, using(nr_spec_plans::proofs::PlanLemmas::planning), unfolding(crate::specs::Command::key_plan, nr_spec_plans::specs::Plans::Runs, nr_spec_plans::specs::Plans::followed_by))]
+#[tactic(auto, using(nr_spec_plans::proofs::PlanLemmas::planning), unfolding(nr_spec_program::specs::Command::key_plan, nr_spec_plans::specs::Plans::Runs, nr_spec_plans::specs::Plans::followed_by))]
 fn read_key<F: Files>(
     alloc: Global,
     files: &mut F,
@@ -82,7 +82,7 @@ fn read_key<F: Files>(
 
 /// What the request gives: the root of the key whose file was written and synced, or the first thing that
 /// stops it. What this program takes of memory it takes before the key file is cut.
-#[tactic(auto, using(nr_spec_plans::proofs::PlanLemmas::planning), unfolding(crate::specs::Command::keygen_plan, nr_spec_plans::specs::Plans::Runs, nr_spec_plans::specs::Plans::followed_by))]
+#[tactic(auto, using(nr_spec_plans::proofs::PlanLemmas::planning), unfolding(nr_spec_program::specs::Command::keygen_plan, nr_spec_plans::specs::Plans::Runs, nr_spec_plans::specs::Plans::followed_by))]
 pub fn keygen<F: Files>(
     alloc: Global,
     files: &mut F,

@@ -15,7 +15,6 @@ mod key_request;
 mod keygen;
 #[cfg(test)]
 mod keygen_tests;
-mod laws;
 mod links;
 mod numbers;
 #[cfg(test)]

@@ -2,10 +2,10 @@
 
 ghost use Rattle.std.specs.Prelude.{map};
 ghost use Rattle.std.specs.String.{string_bytes};
-ghost use Rattle.netreview.specs.Command.{plan_for, plan_of};
+ghost use Rattle.nr_spec_program.specs.Command.{plan_for, plan_of};
 ghost use Rattle.netreview.specs.Requests.{request_of};
 ghost use Rattle.netreview.specs.Endings.{fixed_of};
-ghost use Rattle.netreview.specs.Running.{Delivers, RunsTo};
+ghost use Rattle.nr_spec_program.specs.Running.{Delivers, RunsTo};
 
 use crate::commands::perform;
 use crate::ending::{Fixed, out_of_memory, read_fault, refused, usage, write_fault};

@@ -2,7 +2,7 @@ use Rattle.std.proofs.Common.{ℕ, List, length, sym, ap, ◌∙◌}
 use Rattle.std.specs.String.{string_bytes}
 use Rattle.std.proofs.lemmas.List.{nil_from_length}
 use Rattle.std.proofs.lemmas.Bool.{eqb-true, eqb-false}
-use Rattle.netreview.specs.Command.{Ending}
+use Rattle.nr_spec_program.specs.Command.{Ending}
 use Rattle.netreview.proofs.ReportLemmas.{clean_report, full_ending, full_report}
 use Rattle.netreview.proofs.audit.report.Goals as goal
 

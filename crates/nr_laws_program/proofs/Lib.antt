@@ -1,0 +1,4 @@
+pub mod PlanKinds
+pub mod StatusLaws
+pub mod FileLaws
+pub mod FileOrder

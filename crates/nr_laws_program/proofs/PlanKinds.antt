@@ -1,0 +1,97 @@
+-- What kinds of steps this program's plans have, and where they end.
+use Rattle.std.proofs.Common.{◌≡◌, ◌≢◌, ℕ, ◌≤◌, List, [], ◌∷◌, Option, Some, None, Result, Ok, Err, refl, sym, ap, inl, inr, ◌⊎◌, arith}
+use Rattle.std.specs.Prelude.{nat_le}
+use Rattle.std.proofs.lemmas.Bool.{cases_Bool}
+use Rattle.nr_spec_plans.specs.Plans.{Done, Room, Refuse, Act, followed_by, ◌>>=◌, want, save, Action, Ask, Read, Cut, Write, Sync}
+use Rattle.nr_spec_plans.specs.Laws.{Each, Ends}
+use Rattle.nr_spec_plans.proofs.PlanLaws.{each_followed, ends_followed}
+use Rattle.nr_spec_log.specs.Authenticator.{Authenticator, auths_of}
+use Rattle.nr_spec_log.specs.Answer.{answer_of}
+use Rattle.nr_spec_history.specs.Report as report
+use Rattle.nr_spec_history.specs.KeyFiles.{seed_of}
+use Rattle.nr_spec_program.specs.Promises.{promise_of}
+use Rattle.nr_spec_commands.specs.Words.{AuditRequest, CheckRequest, KeygenRequest, Request, Audit, Check, Keygen}
+use Rattle.nr_spec_program.specs.Command.{Input, Work, Ending, Refusal, NoFile, Limit, Malformed, refusal_ending, load, sized, well_formed, concluded, promise_plan, check_plan, audit_plan, key_plan, keygen_plan, plan_of, input_limit, promise_ending, report_ending, key_ending}
+use Rattle.nr_spec_program.specs.Causes.{EndOf}
+use Rattle.nr_spec_program.specs.Command as command
+
+-- ---- steps of one kind
+
+-- The steps that read a file in whole are of this kind.
+pub record KindReads (kind : Action → Type 0) (name : List ℕ) : Type 0 where
+  pub ask : kind (Ask name)
+  pub read : (size : ℕ) → kind (Read name size)
+
+pub sized_each : (kind : Action → Type 0) (input : Input) (answer : Option ℕ) → Each kind (sized input answer)
+sized_each kind input None = tt
+sized_each kind input (Some found) = elim (cases_Bool (nat_le found (input_limit input))) [ inl is ↦ rw is tt | inr is ↦ rw is tt ]
+
+pub load_each : (kind : Action → Type 0) (input : Input) (name : List ℕ) → KindReads kind name → Each kind (load input name)
+unfolding load
+load_each kind input name is =
+    each_followed kind _ _ (is.ask, λ answer. tt) (λ answer. each_followed kind _ _ (sized_each kind input answer) (λ size. (is.read size, λ bytes. tt)))
+
+pub well_formed_each : {A : Type 0} (kind : Action → Type 0) (input : Input) (found : Result A ℕ) → Each kind (well_formed input found)
+well_formed_each kind input (Ok value) = tt
+well_formed_each kind input (Err place) = tt
+
+concluded_each : (kind : Action → Type 0) (found : Result (List Authenticator) report.Fact) → Each kind (concluded found)
+concluded_each kind (Ok conflicts) = tt
+concluded_each kind (Err fact) = tt
+
+pub promise_each : (kind : Action → Type 0) (name : List ℕ) → KindReads kind name → Each kind (promise_plan name)
+unfolding promise_plan
+promise_each kind name is = each_followed kind _ _ (load_each kind _ name is) (λ text. well_formed_each kind _ (promise_of text))
+
+pub check_each : (kind : Action → Type 0) (q : CheckRequest) → KindReads kind q.promise → Each kind (plan_of (Check q))
+unfolding plan_of check_plan
+check_each kind q is = each_followed kind _ _ (promise_each kind q.promise is) (λ promise. each_followed kind want _ tt (λ room. tt))
+
+pub audit_each : (kind : Action → Type 0) (q : AuditRequest) → KindReads kind q.promise → KindReads kind q.answer → KindReads kind q.auths → Each kind (plan_of (Audit q))
+unfolding plan_of audit_plan
+audit_each kind q promise answer auths =
+    each_followed kind _ _ (promise_each kind q.promise promise) (λ promise.
+    each_followed kind _ _ (load_each kind _ q.answer answer) (λ answer_bytes.
+    each_followed kind _ _ (well_formed_each kind _ (answer_of answer_bytes)) (λ answer.
+    each_followed kind _ _ (load_each kind _ q.auths auths) (λ auths_bytes.
+    each_followed kind _ _ (well_formed_each kind _ (auths_of auths_bytes)) (λ auths. concluded_each kind _)))))
+
+pub key_each : (kind : Action → Type 0) (q : KeygenRequest) → KindReads kind q.seed → Each kind (key_plan q)
+unfolding key_plan
+key_each kind q is = each_followed kind _ _ (load_each kind _ q.seed is) (λ bytes. each_followed kind _ _ (well_formed_each kind _ (seed_of bytes)) (λ seed. tt))
+
+pub keygen_each : (kind : Action → Type 0) (q : KeygenRequest) → KindReads kind q.seed → kind (Cut q.key 0) → ((bytes : List ℕ) → kind (Write q.key 0 bytes)) → kind (Sync q.key) → Each kind (plan_of (Keygen q))
+unfolding plan_of keygen_plan save followed_by
+keygen_each kind q is cut write sync = each_followed kind (key_plan q) _ (key_each kind q is) (λ key. (cut, λ a. (write _, λ b. (sync, λ c. tt))))
+
+-- ---- endings
+
+report_ends : (found : Result (List Authenticator) report.Fact) → Ends (λ e. (conflicts : List Authenticator) × (e ≡ report_ending conflicts)) (concluded found)
+report_ends (Ok conflicts) = (conflicts, refl)
+report_ends (Err fact) = tt
+
+pub request_ends : (request : Request) → Ends (EndOf request) (plan_of request)
+unfolding plan_of check_plan audit_plan keygen_plan
+request_ends (Check q) = ends_followed (EndOf (Check q)) _ _ (λ promise. ends_followed (EndOf (Check q)) want _ (λ room. (promise, refl)))
+request_ends (Audit q) =
+    ends_followed (EndOf (Audit q)) _ _ (λ promise. ends_followed (EndOf (Audit q)) _ _ (λ answer_bytes. ends_followed (EndOf (Audit q)) _ _ (λ answer. ends_followed (EndOf (Audit q)) _ _ (λ auths_bytes. ends_followed (EndOf (Audit q)) _ _ (λ auths. report_ends _)))))
+request_ends (Keygen q) = ends_followed (EndOf (Keygen q)) _ _ (λ key. ends_followed (EndOf (Keygen q)) want _ (λ room. ends_followed (EndOf (Keygen q)) _ _ (λ done. (key, refl))))
+
+-- the statuses of endings
+report_low : (conflicts : List Authenticator) → (report_ending conflicts).status ≤ 1
+unfolding report_ending
+report_low [] = omega arith
+report_low (first ∷ others) = omega arith
+
+pub ends_low : (request : Request) (e : Ending) → EndOf request e → e.status ≤ 1
+unfolding promise_ending key_ending
+ends_low (Audit q) e (conflicts, is) = rw is (report_low conflicts)
+ends_low (Keygen q) e (key, is) = rw is (omega arith)
+ends_low (Check q) e (promise, is) = rw is (omega arith)
+
+pub refusal_status : (refusal : Refusal) → ((refusal_ending refusal).status ≡ 3) ⊎ ((refusal_ending refusal).status ≡ 7)
+unfolding refusal_ending
+refusal_status (NoFile input) = inr refl
+refusal_status (Limit input found) = inr refl
+refusal_status (Malformed input place) = inl refl
+refusal_status (command.Refused fact) = inr refl

@@ -1,0 +1,5 @@
+use Rattle.nr_laws_program.proofs.FileOrder.{run_refused_by}
+use Rattle.nr_laws_program.proofs.laws.refusals_leave_later_files.Goals as goal
+
+pub returns : goal.returns
+returns c = run_refused_by

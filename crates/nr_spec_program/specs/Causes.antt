@@ -1,0 +1,201 @@
+-- What a run's status and ending say of the words, of the counts of faults and of the files.
+use Rattle.std.specs.Prelude.{◌≡◌, ◌≢◌, ◌⊎◌, ℕ, ◌≤◌, false, List, [], ◌∷◌, Option, None, Some, Result, Ok, Err}
+use Rattle.nr_spec_log.specs.Authenticator.{Authenticator}
+use Rattle.nr_spec_history.specs.KeyFiles.{Key, key_file}
+use Rattle.nr_spec_plans.specs.Disk.{Contents, Disk, Tape, Fault, Memory, Cuts, Writes, Syncs, more}
+use Rattle.nr_spec_plans.specs.Plans.{Action, Ask, Read, Cut, Write, Sync, Halt, Refused, Faulted, Runs}
+use Rattle.nr_spec_plans.specs.Laws.{IsAmong, IsRead, Unchanged, fault_in, outcome, reads_after, writes_after}
+use Rattle.nr_spec_plans.specs.Steps.{OnlyBy}
+use Rattle.nr_spec_commands.specs.Words.{Request, KeygenRequest, Audit, Keygen, Check}
+use Rattle.nr_spec_program.specs.Promises.{PromiseFile}
+use Rattle.nr_spec_program.specs.Command as command
+use Rattle.nr_spec_program.specs.Command.{Input, PromiseInput, AnswerInput, AuthsInput, SeedInput, NoFile, Limit, Malformed, Work, Ending, Refusal, refusal_ending, fault_ending, report_ending, key_ending, promise_ending, key_plan}
+
+-- ---- counts
+
+abbrev pub same : ℕ → ℕ
+same count = count
+
+-- The counts of read faults, of write faults and of the sink's faults have become this.
+pub record Counts (of_reads of_writes of_sink : ℕ → ℕ) (old new : Disk) (before after : Tape) : Type 0 where
+  pub reads : new.read_faults ≡ of_reads old.read_faults
+  pub writes : new.write_faults ≡ of_writes old.write_faults
+  pub sink : after.faults ≡ of_sink before.faults
+
+-- No count rose by one; one at its last value counts as risen.
+pub record NoneRose (old new : Disk) (before after : Tape) : Type 0 where
+  pub reads : new.read_faults ≢ more 1 old.read_faults
+  pub writes : new.write_faults ≢ more 1 old.write_faults
+  pub sink : after.faults ≢ more 1 before.faults
+
+-- ---- what ended the work
+
+-- the endings of a request that nothing stopped
+abbrev pub EndOf : Request → Ending → Type 0
+EndOf (Audit q) e = (conflicts : List Authenticator) × (e ≡ report_ending conflicts)
+EndOf (Keygen q) e = (key : Key) × (e ≡ key_ending key)
+EndOf (Check q) e = (promise : PromiseFile) × (e ≡ promise_ending promise)
+
+-- The words ask for a request, whose plan gave an ending of this status.
+pub record GaveEnding (request : Option Request) (result : Result Ending (Halt Refusal)) (status : ℕ) : Type 0 where
+  pub asked : Request
+  pub words : request ≡ Some asked
+  pub ending : Ending
+  pub gave : result ≡ Ok ending
+  pub of : EndOf asked ending
+  pub answers : status ≡ ending.status
+
+-- The plan was refused, and the status is that of the refusal's line.
+pub record GaveRefusal (result : Result Ending (Halt Refusal)) (status : ℕ) : Type 0 where
+  pub refusal : Refusal
+  pub gave : result ≡ Err (Refused refusal)
+  pub answers : status ≡ (refusal_ending refusal).status
+
+-- Memory ran out in the plan, or for the line of a refusal, or at the sink.
+abbrev pub RanOut : Result Ending (Halt Refusal) → Ending → (sink : Result (Unit {0}) Fault) → Type 0
+RanOut result e sink =
+    (result ≡ Err (Faulted Memory))
+    ⊎ (((refusal : Refusal) × (result ≡ Err (Refused refusal)) × (e ≡ fault_ending Memory)) ⊎ (sink ≡ Err Memory))
+
+-- Each status has its cause, by what the plan gave, its ending and what the sink answered. The words alone decide on
+-- usage. With 4 one count rose, by one. With 5 that of write faults did, or that of the sink, and beside it the count of
+-- the fault whose line the sink didn't take, if any. With every other status none rose, but where the sink found no memory
+-- for the line of a fault.
+pub record Caused (request : Option Request) (old new : Disk) (before after : Tape) (result : Result Ending (Halt Refusal))
+    (e : Ending) (sink : Result (Unit {0}) Fault) (status : ℕ) : Type 0 where
+  pub usage : status ≡ 2 → request ≡ None
+  pub is_usage : request ≡ None → (status ≡ 2) ⊎ ((status ≡ 5) ⊎ (status ≡ 6))
+  pub known : status ≤ 7
+  pub own : status ≢ 5 → status ≢ 6 → status ≡ e.status
+  pub ending : (status ≡ 0) ⊎ (status ≡ 1) → GaveEnding request result status
+  pub refusal : (status ≡ 3) ⊎ (status ≡ 7) → GaveRefusal result status
+  pub memory : status ≡ 6 → RanOut result e sink
+  pub read_fault : status ≡ 4 → Counts (more 1) same same old new before after
+  pub write_fault : status ≡ 5
+      → Counts same (more 1) same old new before after
+      ⊎ Counts (reads_after (fault_in result)) (writes_after (fault_in result)) (more 1) old new before after
+  pub no_fault : status ≢ 4 → status ≢ 5 → sink ≢ Err Memory → Counts same same same old new before after
+  pub no_sink : status ≢ 5 → after.faults ≡ before.faults
+  pub no_memory : sink ≡ Err Memory → status ≡ 6
+
+-- A command that writes nothing has only the sink for status 5.
+pub record OnlyTheSinkFails (old new : Disk) (before after : Tape) (status : ℕ) : Type 0 where
+  pub writes : new.write_faults ≡ old.write_faults
+  pub sink : status ≡ 5 → after.faults ≡ more 1 before.faults
+
+-- ---- names
+
+-- the files that a request may ask for and read
+abbrev pub read_names : Request → List (List ℕ)
+read_names (Audit q) = q.promise ∷ q.answer ∷ q.auths ∷ []
+read_names (Keygen q) = q.seed ∷ []
+read_names (Check q) = q.promise ∷ []
+
+-- the files that a request may write
+abbrev pub written_names : Request → List (List ℕ)
+written_names (Audit q) = []
+written_names (Keygen q) = q.key ∷ []
+written_names (Check q) = []
+
+-- the same of the words; those that aren't taken name no file
+abbrev pub read_in : Option Request → List (List ℕ)
+read_in None = []
+read_in (Some request) = read_names request
+
+abbrev pub written_in : Option Request → List (List ℕ)
+written_in None = []
+written_in (Some request) = written_names request
+
+-- ---- refusals
+
+-- the input files of a request before this one, in the order in which they are asked for
+abbrev pub names_before : Request → Input → List (List ℕ)
+names_before (Audit q) PromiseInput = []
+names_before (Audit q) AnswerInput = q.promise ∷ []
+names_before (Audit q) AuthsInput = q.promise ∷ q.answer ∷ []
+names_before (Audit q) SeedInput = []
+names_before (Keygen q) input = []
+names_before (Check q) input = []
+
+-- the same with this one
+abbrev pub names_until : Request → Input → List (List ℕ)
+names_until (Audit q) PromiseInput = q.promise ∷ []
+names_until (Audit q) AnswerInput = q.promise ∷ q.answer ∷ []
+names_until (Audit q) AuthsInput = q.promise ∷ q.answer ∷ q.auths ∷ []
+names_until (Audit q) SeedInput = []
+names_until (Keygen q) input = q.seed ∷ []
+names_until (Check q) input = q.promise ∷ []
+
+-- The files that were asked for where this refuses: none after the refused one.
+abbrev pub names_asked : Request → Refusal → List (List ℕ)
+names_asked request (NoFile input) = names_until request input
+names_asked request (Limit input found) = names_until request input
+names_asked request (Malformed input place) = names_until request input
+names_asked request (command.Refused fact) = read_names request
+
+-- The files that were read: not one that is absent or past its limit.
+abbrev pub names_read : Request → Refusal → List (List ℕ)
+names_read request (NoFile input) = names_before request input
+names_read request (Limit input found) = names_before request input
+names_read request (Malformed input place) = names_until request input
+names_read request (command.Refused fact) = read_names request
+
+-- The step asks for a file of the first names, or reads one of the second.
+abbrev pub AsksAndReads : (asked read : List (List ℕ)) → Action → Type 0
+AsksAndReads asked read (Ask name) = IsAmong name asked
+AsksAndReads asked read (Read name size) = IsAmong name read
+AsksAndReads asked read (Cut name len) = ⊥
+AsksAndReads asked read (Write name at bytes) = ⊥
+AsksAndReads asked read (Sync name) = ⊥
+
+-- what may have been done where this refuses
+abbrev pub Permits : Request → Refusal → Action → Type 0
+Permits request refusal = AsksAndReads (names_asked request refusal) (names_read request refusal)
+
+-- ---- endings
+
+-- What is answered has P, or would have, had the sink taken the ending.
+abbrev pub Answered : (P : ℕ → Type 0) → Ending → (status : ℕ) → Type 0
+Answered P e status = P status ⊎ P e.status
+
+-- the statuses with which nothing was written
+abbrev pub WroteNothing : ℕ → Type 0
+WroteNothing status = (status ≢ 0) × (status ≢ 5) × (status ≢ 6)
+
+-- the ending of a value, or of a refusal
+abbrev pub ended : Result Ending Refusal → Ending
+ended (Ok ending) = ending
+ended (Err refusal) = refusal_ending refusal
+
+-- The ending is what the plan gives by what the files hold, or that of want of memory, or that of the fault that stopped
+-- the plan.
+abbrev pub EndsBy : Contents → Work Ending → Result Ending (Halt Refusal) → Ending → Type 0
+EndsBy held plan result e =
+    (e ≡ ended (outcome held plan))
+    ⊎ ((e ≡ fault_ending Memory) ⊎ ((fault : Fault) × (fault_in result ≡ Err fault) × (e ≡ fault_ending fault)))
+
+-- The ending is what the plan gives by what the files hold, or that of want of memory; the status is its own, or that of
+-- want of memory.
+pub record EndsAs (held : Contents) (plan : Work Ending) (e : Ending) (status : ℕ) : Type 0 where
+  pub ending : (e ≡ ended (outcome held plan)) ⊎ (e ≡ fault_ending Memory)
+  pub answers : (status ≡ e.status) ⊎ (status ≡ (fault_ending Memory).status)
+
+-- ---- files
+
+-- No file was cut, written or synced, and no such call failed: each step asked for a size or read.
+pub record LeavesFiles (old new : Disk) : Type 0 where
+  pub told : Unchanged old.told new.told
+  pub writes : new.write_faults ≡ old.write_faults
+  pub only : OnlyBy IsRead old new
+
+-- A key was got from its seed file, and after that the key file was cut to nothing, written and synced, and each of these
+-- went well.
+pub record SavesKey (q : KeygenRequest) (old new : Disk) : Type 0 where
+  pub key : Key
+  pub read : Disk
+  pub cut : Disk
+  pub wrote : Disk
+  pub gets : Runs (key_plan q) old read (Ok key)
+  pub cuts : Cuts q.key 0 read cut (Ok tt)
+  pub writes : Writes q.key 0 (key_file key) cut wrote (Ok tt)
+  pub syncs : Syncs q.key wrote new (Ok tt)

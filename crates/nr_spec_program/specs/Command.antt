@@ -1,0 +1,189 @@
+-- What the program does: from its words to a plan over files, which gives a status and a text.
+use Rattle.std.specs.Prelude.{ℕ, nat_le, if◌then◌else◌, List, [], ◌∷◌, Option, None, Some, Result, Ok, Err, codes}
+use Rattle.std.specs.Fmt.{decimal}
+use Rattle.hex.specs.Hex.{encode_lower}
+use Rattle.nr_spec_log.specs.Authenticator.{Authenticator, auths_of}
+use Rattle.nr_spec_log.specs.Answer.{answer_of}
+use Rattle.nr_spec_history.specs.KeyFiles.{Key, seed_of, key_file, key_root}
+use Rattle.nr_rule_syntax.specs.Printing.{file_text}
+use Rattle.nr_spec_history.specs.Report.{Fact, Form, Network, Unsigned, Head, Short, outcome, line, report_text}
+use Rattle.nr_spec_plans.specs.Disk.{Fault, ReadFault, WriteFault, Memory}
+use Rattle.nr_spec_plans.specs.Plans.{Plan, Done, Refuse, Room, act, want, Ask, Read, save, ◌>>=◌}
+use Rattle.nr_spec_program.specs.Promises.{PromiseFile, promise_of}
+use Rattle.nr_spec_commands.specs.Words.{AuditRequest, CheckRequest, KeygenRequest, Request, Audit, Keygen, Check, request_in}
+
+-- ---- input files
+
+pub data Input : Type 0 where
+  PromiseInput : Input
+  AnswerInput : Input
+  AuthsInput : Input
+  SeedInput : Input
+
+-- the word for it in the lines that the program prints
+abbrev pub input_name : Input → List ℕ
+input_name PromiseInput = codes "promise"
+input_name AnswerInput = codes "answer"
+input_name AuthsInput = codes "auths"
+input_name SeedInput = codes "seed"
+
+-- its greatest size in bytes
+abbrev pub input_limit : Input → ℕ
+input_limit PromiseInput = 1048576
+input_limit AnswerInput = 2147483647
+input_limit AuthsInput = 1073741824
+input_limit SeedInput = 1048576
+
+-- ---- refusals
+
+pub data Refusal : Type 0 where
+  -- no file has the name
+  NoFile : (input : Input) → Refusal
+  -- the file is longer than its limit
+  Limit : (input : Input) (found : ℕ) → Refusal
+  -- the file isn't in its grammar; the place of the first malformed field
+  Malformed : (input : Input) (place : ℕ) → Refusal
+  -- what the files say refuses the audit
+  Refused : (fact : Fact) → Refusal
+
+-- ---- reading input files
+
+-- a plan of this program
+abbrev pub Work : Type 0 → Type 0
+Work A = Plan Refusal A
+
+-- the size of a file that is there and within its limit
+abbrev pub sized : Input → Option ℕ → Work ℕ
+sized input None = Refuse (NoFile input)
+sized input (Some found) = if nat_le found (input_limit input) then Done found else Refuse (Limit input found)
+
+-- Asks for an input file, and reads it in whole where it is there and within its limit.
+unfoldable pub load : Input → (name : List ℕ) → Work (List ℕ)
+load input name = do
+  answer ← act (Ask name)
+  size ← sized input answer
+  act (Read name size)
+
+-- what a file that is in its grammar holds
+abbrev pub well_formed : {A : Type 0} → Input → Result A ℕ → Work A
+well_formed input (Ok value) = Done value
+well_formed input (Err place) = Refuse (Malformed input place)
+
+-- ---- endings
+
+-- the status with which the program ends, and the text that it offers to the sink
+pub record Ending : Type 0 where
+  pub status : ℕ
+  pub text : List ℕ
+
+abbrev pub fact_words : Fact → List (List ℕ)
+fact_words Form = codes "form" ∷ codes "answer" ∷ []
+fact_words (Network found wanted) = codes "network" ∷ decimal found ∷ decimal wanted ∷ []
+fact_words Unsigned = codes "head" ∷ codes "unsigned" ∷ []
+fact_words (Head head chain) = codes "head" ∷ encode_lower head ∷ encode_lower chain ∷ []
+fact_words (Short head to) = codes "short" ∷ decimal head ∷ decimal to ∷ []
+
+unfoldable pub refusal_ending : Refusal → Ending
+refusal_ending (NoFile input) =
+    record { status = 7; text = line (codes "refused" ∷ codes "nofile" ∷ input_name input ∷ []) }
+refusal_ending (Limit input found) =
+    record {
+      status = 7;
+      text = line (codes "refused" ∷ codes "limit" ∷ input_name input ∷ decimal found ∷ decimal (input_limit input) ∷ []);
+    }
+refusal_ending (Malformed input place) =
+    record { status = 3; text = line (codes "malformed" ∷ input_name input ∷ decimal place ∷ []) }
+refusal_ending (Refused fact) = record { status = 7; text = line (codes "refused" ∷ fact_words fact) }
+
+-- 1 where there is a conflict
+abbrev pub report_status : List Authenticator → ℕ
+report_status [] = 0
+report_status (first ∷ others) = 1
+
+unfoldable pub report_ending : List Authenticator → Ending
+report_ending conflicts = record { status = report_status conflicts; text = report_text conflicts }
+
+unfoldable pub key_ending : Key → Ending
+key_ending key = record { status = 0; text = line (codes "root" ∷ encode_lower (key_root key) ∷ []) }
+
+-- the canonical text of a promise file
+unfoldable pub promise_ending : PromiseFile → Ending
+promise_ending promise = record { status = 0; text = file_text promise.file }
+
+-- the report, where no fact refuses the audit
+abbrev pub concluded : Result (List Authenticator) Fact → Work Ending
+concluded (Ok conflicts) = Done (report_ending conflicts)
+concluded (Err fact) = Refuse (Refused fact)
+
+abbrev pub usage_ending : Ending
+usage_ending = record { status = 2; text = line (codes "usage" ∷ []) }
+
+abbrev pub read_fault_ending : Ending
+read_fault_ending = record { status = 4; text = line (codes "read" ∷ codes "fault" ∷ []) }
+
+abbrev pub write_fault_ending : Ending
+write_fault_ending = record { status = 5; text = line (codes "write" ∷ codes "fault" ∷ []) }
+
+abbrev pub memory_ending : Ending
+memory_ending = record { status = 6; text = line (codes "memory" ∷ []) }
+
+-- the ending of a fault
+abbrev pub fault_ending : Fault → Ending
+fault_ending ReadFault = read_fault_ending
+fault_ending WriteFault = write_fault_ending
+fault_ending Memory = memory_ending
+
+-- ---- commands
+
+-- what a promise file says
+unfoldable pub promise_plan : (name : List ℕ) → Work PromiseFile
+promise_plan name = do
+  text ← load PromiseInput name
+  Room (well_formed PromiseInput (promise_of text))
+
+-- the canonical text of a promise file
+unfoldable pub check_plan : CheckRequest → Work Ending
+check_plan q = do
+  promise ← promise_plan q.promise
+  room ← want
+  Done (promise_ending promise)
+
+-- The conflicts of an answer, or the first thing that refuses them. No file is asked for after one that is refused.
+unfoldable pub audit_plan : AuditRequest → Work Ending
+audit_plan q = do
+  promise ← promise_plan q.promise
+  answer_bytes ← load AnswerInput q.answer
+  answer ← well_formed AnswerInput (answer_of answer_bytes)
+  auths_bytes ← load AuthsInput q.auths
+  auths ← well_formed AuthsInput (auths_of auths_bytes)
+  Room (concluded (outcome q.root promise.says.network answer q.period auths))
+
+-- the key that is asked for, by the seed file
+unfoldable pub key_plan : KeygenRequest → Work Key
+key_plan q = do
+  bytes ← load SeedInput q.seed
+  seed ← well_formed SeedInput (seed_of bytes)
+  Done (record { asn = q.asn; height = q.height; seed = seed })
+
+-- The key file is written after all that is wanted of memory.
+unfoldable pub keygen_plan : KeygenRequest → Work Ending
+keygen_plan q = do
+  key ← key_plan q
+  room ← want
+  saved ← save q.key (key_file key)
+  Done (key_ending key)
+
+-- the table of commands
+unfoldable pub plan_of : Request → Work Ending
+plan_of (Audit q) = audit_plan q
+plan_of (Keygen q) = keygen_plan q
+plan_of (Check q) = check_plan q
+
+-- what a request asks to be done, or the usage
+abbrev pub plan_in : Option Request → Work Ending
+plan_in None = Done usage_ending
+plan_in (Some request) = plan_of request
+
+-- what is done for the words
+abbrev pub plan_for : List (List ℕ) → Work Ending
+plan_for words = Room (plan_in (request_in words))

@@ -1,0 +1,4 @@
+pub mod Promises
+pub mod Command
+pub mod Running
+pub mod Causes
