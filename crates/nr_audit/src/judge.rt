@@ -1,0 +1,72 @@
+//! The audit of an answer.
+
+ghost use Rattle.std.specs.Prelude.{◌≡◌, ◌≤◌, IfOk, length, map};
+ghost use Rattle.nr_spec_report.specs.Outcome.{outcome};
+ghost use Rattle.nr_evidence.specs.Views.{period_of};
+ghost use Rattle.nr_audit.specs.Answers.{Answers};
+ghost use Rattle.nr_audit.specs.Views.{audited_of};
+
+use crate::audited::{Audited, file_of_other, first_digest};
+use crate::conflict::{is_signed, mark_conflicts};
+use crate::findings::{Findings, look_through};
+use crate::refusal::Refusal;
+use crate::report::Report;
+use nr_answer::{Answer, Auths};
+use nr_chain::Digest;
+use nr_evidence::Period;
+use std::alloc::Global;
+
+/// What an answer and the authenticators that were handed in show of a network in a period: its conflicts and its wrong
+/// entries, or the first fact that refuses the answer. The root is that of the network's keys. The answer starts with
+/// entry 1, and there is at least one promise file.
+pub fn audit(
+    alloc: Global,
+    root: &Digest,
+    files: &[Audited],
+    answer: &Answer<'_>,
+    auths: &Auths<'_>,
+    period: &Period,
+) -> Result<Report, Refusal>
+    requires first { answer.now.first ≡ 1 }
+    requires some { 1 ≤ length files.now }
+    ensures outcome { Answers auths.now result
+        (outcome root.now.0 (map audited_of files.now) answer.now (period_of period.now) auths.now) }
+    ensures marks { IfOk result (λ report. length report.conflicts.items ≡ length auths.now) }
+{
+    if let Some(other) = file_of_other(answer.asn(), files) {
+        return Err(Refusal::Network {
+            answer: answer.asn(),
+            promise: other.network,
+        });
+    }
+    let head = answer.head();
+    if !is_signed(root, &head) {
+        return Err(Refusal::Unsigned);
+    }
+    let Findings {
+        value,
+        slots,
+        misfit,
+        wrong,
+    } = look_through(alloc, period, files, answer, auths)?;
+    if head.hash.0.as_slice() != value.0.as_slice() {
+        return Err(Refusal::Head {
+            head: head.hash,
+            chain: value,
+        });
+    }
+    if head.time <= period.to {
+        return Err(Refusal::Short {
+            head: head.time,
+            to: period.to,
+        });
+    }
+    if let Some(found) = misfit {
+        return Err(Refusal::Promise {
+            found,
+            file: first_digest(files),
+        });
+    }
+    let conflicts = mark_conflicts(alloc, root, answer.asn(), period, &slots, auths)?;
+    Ok(Report { conflicts, wrong })
+}
