@@ -1,8 +1,10 @@
--- A loop that finds something of each item, up to the first fault.
-use Rattle.std.proofs.Common.{◌≡◌, ℕ, suc, ◌+◌, ◌<◌, ◌≤◌, List, [], ◌∷◌, ◌++◌, map, length, drop, get_or, Result, Ok, Err, refl, ap, sym, ◌∙◌, append_assoc, arith}
+-- A loop that finds something of each item, up to the first fault, and what holds of the items so far.
+use Rattle.std.proofs.Common.{◌≡◌, ℕ, suc, ◌+◌, ◌<◌, ◌≤◌, List, [], ◌∷◌, ◌++◌, map, length, take, drop, get_or, Result, Ok, Err, refl, ap, sym, subst, ◌∙◌, append_assoc, arith}
 use Rattle.std.proofs.Math.Seq.{drop-cons}
 use Rattle.std.proofs.Math.ListN.{drop_of_length-le}
-use Rattle.std.proofs.lemmas.List.{append-nil}
+use Rattle.std.specs.List.{All}
+use Rattle.std.proofs.lemmas.List.{append-nil, take_more, take_all}
+use Rattle.std.proofs.lemmas.List.Elements.{All-push}
 use Rattle.nr_spec_wire.specs.Reading.{◌>>=◌}
 use Rattle.nr_spec_typing.specs.Steps.{◌<$>◌, all_of, in_turn}
 use Rattle.nr_rule_types.specs.declared.fault.TypeError.{TypeError}
@@ -86,3 +88,11 @@ way_done {xs = xs} h le = sym (rw (drop_of_length-le xs le) at h.same)
 pub mapped_fails : {A B : Type 0} (f : A → B) (read : Result A ℕ) (e : TypeError) → Fails read e → Fails (f <$> read) e
 mapped_fails f read Memory h = tt
 mapped_fails f read (At place) h = ap (λ r. f <$> r) h
+
+-- ---- what holds of each item so far
+
+pub all_so_far : {A : Type 0} (P : A → Type 0) (xs : List A) (i : ℕ) (x : A) → i < length xs → x ≡ get_or xs i x → All P (take i xs) → P x → All P (take (i + 1) xs)
+all_so_far P xs i x lt e before now = rw (take_more xs i x lt) (All-push P (take i xs) (get_or xs i x) before (subst P e now))
+
+pub all_of_whole : {A : Type 0} (P : A → Type 0) (xs : List A) (i : ℕ) → length xs ≤ i → All P (take i xs) → All P xs
+all_of_whole P xs i le before = rw (take_all i xs le) at before

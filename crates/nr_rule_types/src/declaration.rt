@@ -1,8 +1,10 @@
 //! Declarations, one after another.
 
+ghost use Rattle.std.specs.Prelude.{IfOk};
 ghost use Rattle.std.specs.List.{All};
 ghost use Rattle.nr_rule_syntax.specs.Nesting.{IsNested};
 ghost use Rattle.nr_spec_typing.specs.Declarations as spec;
+ghost use Rattle.nr_spec_typing.specs.Lengths.{FitsLengths};
 ghost use Rattle.nr_rule_types.specs.Views.{Answers};
 
 use crate::fault::{TypeError, at};
@@ -42,7 +44,8 @@ fn commit<'a>(mut known: Known<'a>, value: &Num, span: Span) -> Result<Known<'a>
 
 fn declaration<'a>(alloc: Global, known: Known<'a>, decl: &'a Decl) -> Result<Known<'a>, TypeError>
     requires { IsNested decl.now }
-    ensures { Answers (spec.declaration known.entry decl.now) result }
+    ensures value { Answers (spec.declaration known.entry decl.now) result }
+    ensures range { IfOk result (λ more. FitsLengths decl.now) }
 {
     match decl {
         Decl::Network { value, span } => network(known, value, *span),
@@ -64,10 +67,11 @@ fn declaration<'a>(alloc: Global, known: Known<'a>, decl: &'a Decl) -> Result<Kn
     }
 }
 
-/// What the declarations of a text say.
+/// What the declarations of a text say. Where they say something, no prefix of a set is longer than 32 bits.
 pub fn declarations<'a>(alloc: Global, decls: &'a [Decl]) -> Result<Known<'a>, TypeError>
     requires { All IsNested decls.now }
-    ensures { Answers (spec.declarations decls.now) result }
+    ensures value { Answers (spec.declarations decls.now) result }
+    ensures range { IfOk result (λ known. All FitsLengths decls.now) }
 {
     let mut known = Known::new(alloc);
     for decl in decls {

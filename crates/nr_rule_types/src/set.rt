@@ -1,6 +1,9 @@
 //! Declarations of sets of prefixes.
 
+ghost use Rattle.std.specs.Prelude.{IfOk};
+ghost use Rattle.std.specs.List.{All};
 ghost use Rattle.nr_spec_typing.specs.Declarations as spec;
+ghost use Rattle.nr_spec_typing.specs.Lengths.{FitsLength};
 ghost use Rattle.nr_spec_typing.specs.Steps.{all_of};
 ghost use Rattle.nr_rule_types.specs.Views.{Answers};
 
@@ -30,7 +33,8 @@ fn most_of(len: u8, most: &Option<Num>) -> Result<u8, TypeError>
 
 // `PREFIX [ le NUMBER ]`
 fn pattern(text: &PatternText) -> Result<Pattern, TypeError>
-    ensures { Answers (spec.pattern text.now) result }
+    ensures value { Answers (spec.pattern text.now) result }
+    ensures range { FitsLength text.now }
 {
     let most = most_of(text.prefix.len(), &text.most)?;
     Ok(Pattern {
@@ -41,7 +45,8 @@ fn pattern(text: &PatternText) -> Result<Pattern, TypeError>
 
 // The patterns of a set of prefixes.
 fn patterns(alloc: Global, texts: &[PatternText]) -> Result<Shared<Pattern>, TypeError>
-    ensures { Answers (all_of spec.pattern texts.now) result }
+    ensures value { Answers (all_of spec.pattern texts.now) result }
+    ensures range { IfOk result (λ set. All FitsLength texts.now) }
 {
     let mut patterns = Vec::new(alloc);
     for text in texts {
@@ -58,7 +63,8 @@ pub fn define<'a>(
     name: &'a Name,
     texts: &[PatternText],
 ) -> Result<Known<'a>, TypeError>
-    ensures { Answers (spec.define known.entry name.now texts.now) result }
+    ensures value { Answers (spec.define known.entry name.now texts.now) result }
+    ensures range { IfOk result (λ more. All FitsLength texts.now) }
 {
     if !known.names.is_new(name) || known.names.defines() >= MOST_DEFINES {
         return Err(at(name.span));

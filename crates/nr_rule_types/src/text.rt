@@ -3,7 +3,6 @@
 ghost use Rattle.std.specs.Prelude.{◌≡◌, IfOk};
 ghost use Rattle.std.specs.List.{All};
 ghost use Rattle.nr_rule_syntax.specs.Nesting.{IsNested};
-ghost use Rattle.nr_rule_syntax.specs.Written.{IsWritten};
 ghost use Rattle.nr_spec_typing.specs.Declarations.{typed_text};
 ghost use Rattle.nr_spec_typing.specs.Guarantees.{IsTyped};
 ghost use Rattle.nr_rule_types.specs.Views.{Answers};
@@ -98,13 +97,12 @@ impl Typed {
     }
 }
 
-/// What a text says, with its names resolved, for a text that is written as `parse` reads, with formulas that nest
-/// at most 64 levels. `At` is the place of the first token that the typing refuses, or the end of the text where
-/// `network` or `commit` is missing.
+/// What a text says, with its names resolved, for a text whose formulas nest at most 64 levels, as `parse` gives. `At`
+/// is the place of the first token that the typing refuses, or the end of the text where `network` or `commit` is
+/// missing.
 #[tactic(auto, unfolding(nr_spec_typing::specs::Declarations::typed_text))]
 pub fn check(alloc: Global, file: &File) -> Result<Typed, TypeError>
-    requires nests { All IsNested file.now.decls }
-    requires written { All IsWritten file.now.decls }
+    requires { All IsNested file.now.decls }
     ensures value { Answers (typed_text file.now) result }
     ensures typed { IfOk result IsTyped }
 {

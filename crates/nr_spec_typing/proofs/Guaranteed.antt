@@ -1,6 +1,6 @@
 -- What a typed text guarantees, declaration by declaration.
 use Rattle.std.proofs.Common.{◌≡◌, ℕ, zero, suc, ◌+◌, ◌<◌, ◌≤◌, true, ◌&&◌, ◌||◌, ◌==◌, not, List, [], ◌∷◌, ◌++◌, map, length, slice_get, nat_lt, nat_le, is_none, count_by, Option, Some, None, IfSome, Result, Ok, refl, ap, sym, subst, arith}
-use Rattle.std.specs.List.{All, AllByRecursion, list_all, list_any}
+use Rattle.std.specs.List.{All, list_all, list_any}
 use Rattle.std.proofs.lemmas.Bool.Decides.{nat_tests}
 use Rattle.std.proofs.lemmas.List.{length-append}
 use Rattle.std.proofs.lemmas.List.Elements.{All-nil, All-head, All-tail, All-push, All-weaker}
@@ -19,7 +19,6 @@ use Rattle.nr_rule_syntax.specs.declared.tree.File.{File}
 use Rattle.nr_rule_syntax.specs.declared.tree.Decl.{Decl}
 use Rattle.nr_rule_syntax.specs.declared.tree.Decl.TheVariants as decls
 use Rattle.nr_rule_syntax.specs.Nesting.{depth, IsNested}
-use Rattle.nr_rule_syntax.specs.Written.{IsWritten, IsPattern as IsWrittenPattern}
 use Rattle.nr_spec_typing.specs.declared.name.Named.{Named}
 use Rattle.nr_spec_typing.specs.declared.name.Named.TheVariants as named
 use Rattle.nr_spec_typing.specs.declared.name.Declared.{Declared}
@@ -31,6 +30,7 @@ use Rattle.nr_spec_typing.specs.Scopes.{Scope, meaning}
 use Rattle.nr_spec_typing.specs.Forms.{typed}
 use Rattle.nr_spec_typing.specs.Declarations.{TypedText, Known, nothing, is_group, is_define, is_new, declare, most_seconds, at_most, network, commit, is_like, is_neighbour_name, key_of, neighbour, member_by, member, add_member, members, group, most_of, pattern, define, places_by, places, promise, declaration, declarations, whole_by, whole, typed_text}
 use Rattle.nr_spec_typing.specs.Guarantees.{are_neighbours, is_pattern, IsPromise, IsKeyNumber, IsTyped}
+use Rattle.nr_spec_typing.specs.Lengths.{FitsLength, FitsLengths}
 use Rattle.nr_spec_typing.proofs.Differ.{AreApart, text_apart}
 use Rattle.nr_spec_typing.proofs.Fitting.{mapped, chained, passed, both, left, right, below, IsWithin, AreWithin, meaning_within, every_good}
 
@@ -214,13 +214,13 @@ most_within len (Some n) found le h =
     let p = passed (nat_le len n.value && nat_le n.value 32) n.span.from n.value found h in
     subst (λ m. nat_le len m && nat_le m 32 ≡ true) p.1 p.0
 
-pattern_fits : (text : PatternText) (found : Pattern) → IsWrittenPattern text → pattern text ≡ Ok found → is_pattern found ≡ true
+pattern_fits : (text : PatternText) (found : Pattern) → FitsLength text → pattern text ≡ Ok found → is_pattern found ≡ true
 pattern_fits text found w h =
     let make : ℕ → Pattern = λ most. record { prefix = text.prefix; most = most } in
     let p = mapped make (most_of text.prefix.len text.most) found h in
-    subst (λ (w : Pattern). is_pattern w ≡ true) p.2 (most_within text.prefix.len text.most p.0 w.0.len p.1)
+    subst (λ (w : Pattern). is_pattern w ≡ true) p.2 (most_within text.prefix.len text.most p.0 w p.1)
 
-patterns_fit : (texts : List PatternText) (found : List Pattern) → AllByRecursion IsWrittenPattern texts → all_of pattern texts ≡ Ok found → list_all is_pattern found ≡ true
+patterns_fit : (texts : List PatternText) (found : List Pattern) → All FitsLength texts → all_of pattern texts ≡ Ok found → list_all is_pattern found ≡ true
 unfolding all_of
 patterns_fit [] found w h = let none : List Pattern = [] in let e : none ≡ found = ok_same none found h in subst (λ (l : List Pattern). list_all is_pattern l ≡ true) e refl
 patterns_fit (text ∷ texts) found w h =
@@ -228,9 +228,9 @@ patterns_fit (text ∷ texts) found w h =
     let q = chained (λ others. Ok (p.0 ∷ others)) (all_of pattern texts) found p.2 in
     let e : p.0 ∷ q.0 ≡ found = ok_same (p.0 ∷ q.0) found q.2 in
     subst (λ (l : List Pattern). list_all is_pattern l ≡ true) e
-    (both (is_pattern p.0) (list_all is_pattern q.0) (pattern_fits text p.0 w.0 p.1) (patterns_fit texts q.0 w.1 q.1))
+    (both (is_pattern p.0) (list_all is_pattern q.0) (pattern_fits text p.0 (All-head FitsLength text texts w) p.1) (patterns_fit texts q.0 (All-tail FitsLength text texts w) q.1))
 
-define_good : (k next : Known) (name : Name) (texts : List PatternText) → IsGoodKnown k → AllByRecursion IsWrittenPattern texts → define k name texts ≡ Ok next → IsGoodKnown next
+define_good : (k next : Known) (name : Name) (texts : List PatternText) → IsGoodKnown k → All FitsLength texts → define k name texts ≡ Ok next → IsGoodKnown next
 unfolding define
 define_good k next name texts g w h =
     let make : Name → List Pattern → Known = λ called set. record k { names = declare k.names called (named.Define set) } in
@@ -289,14 +289,14 @@ promise_good k next name grace at form g nested h =
 
 -- a declaration as it is read
 abbrev IsRead : Decl → Type 0
-IsRead d = IsNested d × IsWritten d
+IsRead d = IsNested d × FitsLengths d
 
 declaration_good : (k : Known) (d : Decl) (next : Known) → IsGoodKnown k → IsRead d → declaration k d ≡ Ok next → IsGoodKnown next
 declaration_good k (decls.Network value span) next g n h = network_good k next value span g h
 declaration_good k (decls.Commit value span) next g n h = commit_good k next value span g h
 declaration_good k (decls.Neighbour name asn addr key) next g n h = neighbour_good k next name asn addr key g h
 declaration_good k (decls.Group name texts) next g n h = group_good k next name texts g h
-declaration_good k (decls.Define name texts) next g n h = define_good k next name texts g n.1.1.1 h
+declaration_good k (decls.Define name texts) next g n h = define_good k next name texts g n.1 h
 declaration_good k (decls.Promise name grace at form) next g n h = promise_good k next name grace at form g n.0 h
 
 nothing_good : IsGoodKnown nothing
@@ -335,9 +335,9 @@ whole_good end k (Some n) (Some m) t g a c h =
 all_both : {A : Type 0} (Q R : A → Type 0) (xs : List A) → All Q xs → All R xs → All (λ x. Q x × R x) xs
 all_both Q R xs q r = λ k d lt. (q k d lt, r k d lt)
 
-pub typed_texts_fit : (file : File) (t : TypedText) → All IsNested file.decls → All IsWritten file.decls → typed_text file ≡ Ok t → IsTyped t
+pub typed_texts_fit : (file : File) (t : TypedText) → All IsNested file.decls → All FitsLengths file.decls → typed_text file ≡ Ok t → IsTyped t
 unfolding typed_text
-typed_texts_fit file t nested written h =
+typed_texts_fit file t nested short h =
     let p = chained (λ known. whole file.end known) (declarations file.decls) t h in
     whole_good file.end p.0 p.0.network p.0.commit t
-    (kept_in_turn declaration IsGoodKnown IsRead declaration_good file.decls nothing p.0 (all_both IsNested IsWritten file.decls nested written) nothing_good p.1) (text_apart file t h) refl p.2
+    (kept_in_turn declaration IsGoodKnown IsRead declaration_good file.decls nothing p.0 (all_both IsNested FitsLengths file.decls nested short) nothing_good p.1) (text_apart file t h) refl p.2

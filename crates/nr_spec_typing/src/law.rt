@@ -4,7 +4,6 @@ ghost use Rattle.std.specs.Prelude.{◌≡◌, ℕ, List, Ok};
 ghost use Rattle.std.specs.List.{All};
 ghost use Rattle.nr_rule_syntax.specs.declared.tree.File.{File};
 ghost use Rattle.nr_rule_syntax.specs.Nesting.{IsNested};
-ghost use Rattle.nr_rule_syntax.specs.Written.{IsWritten};
 ghost use Rattle.nr_spec_typing.specs.Declarations.{TypedText, typed_text};
 ghost use Rattle.nr_rule_syntax.specs.declared.tree.Side.{Side};
 ghost use Rattle.nr_spec_typing.specs.declared.text.Neighbour.{Neighbour};
@@ -12,13 +11,14 @@ ghost use Rattle.nr_spec_typing.specs.declared.tree.Who.{Who};
 ghost use Rattle.nr_spec_typing.specs.declared.tree.Typing.{Typing};
 ghost use Rattle.nr_spec_typing.specs.declared.tree.Typing.TheVariants as t;
 ghost use Rattle.nr_spec_typing.specs.Guarantees.{IsTyped};
+ghost use Rattle.nr_spec_typing.specs.Lengths.{FitsLengths};
 ghost use Rattle.nr_spec_typing.specs.Meaning.{Scene, Thing, holds_where};
 
-/// In a well typed text, read with no formula that nests more than 64 levels, each variable is bound around its
-/// place and stands for what is asked of it, each number is in its range, no formula nests deeper, and no two
-/// neighbours are alike.
+/// In a well typed text whose formulas nest at most 64 levels, and whose prefixes have at most 32 bits, each variable
+/// is bound around its place and stands for what is asked of it, each number is in its range, no formula nests deeper,
+/// and no two neighbours are alike. That these are apart needs neither premise.
 pub fn typed_texts_fit()
-    ensures { (file : File) (text : TypedText) → All IsNested file.decls → All IsWritten file.decls
+    ensures { (file : File) (text : TypedText) → All IsNested file.decls → All FitsLengths file.decls
         → typed_text file ≡ Ok text → IsTyped text }
 {}
 
