@@ -1,0 +1,4 @@
+pub mod Files
+pub mod Moments
+pub mod Broken
+pub mod Counted
