@@ -57,7 +57,7 @@ unchanged_by : (old mid new : disk.Disk) → new ≡ mid → Unchanged old.told 
 unchanged_by old mid new is u = subst (λ (d : disk.Disk). Unchanged old.told d.told) (sym is) u
 
 nothing_changed : (d : disk.Disk) → Unchanged d.told d.told
-nothing_changed d = record { holds = refl; pending = refl }
+nothing_changed d = record { holds = refl; loose = refl; past = refl }
 
 -- ---- commands that write nothing
 

@@ -1,3 +1,5 @@
 pub mod Names
 pub mod Pieces
-pub mod Told
+pub mod Writing
+pub mod Crashes
+pub mod Filling

@@ -23,14 +23,14 @@ more_none count = omega arith
 read_told : (told : Option Told) (m n k : ℕ) → option_map (reading n) (option_map (ticking 1) (option_map (reading m) (option_map (ticking k) told))) ≡ option_map (reading (m + n)) (option_map (ticking (k + 1)) told)
 read_told None m n k = refl
 read_told (Some t) m n k =
-    ap (λ (r : ℕ). Some (record { holds = t.holds; is_pending = t.is_pending; asks = t.asks; reads = r; calls = more 1 (more k t.calls); listed = t.listed })) (more_more m n t.reads)
-    ∙ ap (λ (r : ℕ). Some (record { holds = t.holds; is_pending = t.is_pending; asks = t.asks; reads = more (m + n) t.reads; calls = r; listed = t.listed })) (more_more k 1 t.calls)
+    ap (λ (r : ℕ). Some (record { holds = t.holds; loose = t.loose; past = t.past; asks = t.asks; reads = r; calls = more 1 (more k t.calls); listed = t.listed })) (more_more m n t.reads)
+    ∙ ap (λ (r : ℕ). Some (record { holds = t.holds; loose = t.loose; past = t.past; asks = t.asks; reads = more (m + n) t.reads; calls = r; listed = t.listed })) (more_more k 1 t.calls)
 
 read_nothing : (told : Option Told) → option_map (reading 0) (option_map (ticking 0) told) ≡ told
 read_nothing None = refl
 read_nothing (Some t) =
-    ap (λ (r : ℕ). Some (record { holds = t.holds; is_pending = t.is_pending; asks = t.asks; reads = r; calls = more 0 t.calls; listed = t.listed })) (more_none t.reads)
-    ∙ ap (λ (r : ℕ). Some (record { holds = t.holds; is_pending = t.is_pending; asks = t.asks; reads = t.reads; calls = r; listed = t.listed })) (more_none t.calls)
+    ap (λ (r : ℕ). Some (record { holds = t.holds; loose = t.loose; past = t.past; asks = t.asks; reads = r; calls = more 0 t.calls; listed = t.listed })) (more_none t.reads)
+    ∙ ap (λ (r : ℕ). Some (record { holds = t.holds; loose = t.loose; past = t.past; asks = t.asks; reads = t.reads; calls = r; listed = t.listed })) (more_none t.calls)
 
 pub read_more : (d : Disk) (m n k : ℕ) → read n (ticked 1 (read m (ticked k d))) ≡ read (m + n) (ticked (k + 1) d)
 read_more d m n k = ap (λ (told : Option Told). record { told = told; read_faults = d.read_faults; write_faults = d.write_faults }) (read_told d.told m n k)
@@ -45,7 +45,7 @@ read_idle d m n k none = read_more d m n k ∙ ap (λ (r : ℕ). read r (ticked 
 -- a read that failed is a call
 idle_told : (told : Option Told) (m k : ℕ) → option_map (ticking 1) (option_map (reading m) (option_map (ticking k) told)) ≡ option_map (reading m) (option_map (ticking (k + 1)) told)
 idle_told None m k = refl
-idle_told (Some t) m k = ap (λ (r : ℕ). Some (record { holds = t.holds; is_pending = t.is_pending; asks = t.asks; reads = more m t.reads; calls = r; listed = t.listed })) (more_more k 1 t.calls)
+idle_told (Some t) m k = ap (λ (r : ℕ). Some (record { holds = t.holds; loose = t.loose; past = t.past; asks = t.asks; reads = more m t.reads; calls = r; listed = t.listed })) (more_more k 1 t.calls)
 
 pub read_failed : (d : Disk) (m k : ℕ) → ticked 1 (read m (ticked k d)) ≡ read m (ticked (k + 1) d)
 read_failed d m k = ap (λ (told : Option Told). record { told = told; read_faults = d.read_faults; write_faults = d.write_faults }) (idle_told d.told m k)

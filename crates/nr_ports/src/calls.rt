@@ -49,6 +49,13 @@ impl Calls {
         Ok(())
     }
 
+    // Lists no number any more.
+    pub fn forget(&mut self)
+        ensures { self.new ≡ record { failing = []; made = self.old.made } }
+    {
+        self.failing.clear();
+    }
+
     // Counts a call, and says whether it is to fail.
     pub fn begin(&mut self) -> bool
         ensures fails { result ≡ fails_next self.old }

@@ -5,6 +5,7 @@
 mod calls;
 mod count;
 mod fault;
+mod file;
 mod files;
 mod mem_files;
 mod mem_sink;

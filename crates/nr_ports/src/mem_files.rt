@@ -1,15 +1,16 @@
 //! Files in memory.
 
-ghost use Rattle.std.specs.Prelude.{◌≡◌, ◌≤◌, ◌↔◌, false, [], Some, option_map, length, is_err, IsTrue, IsErr, IfOk, OnOk, OnErr, IsErrOf};
-ghost use Rattle.nr_spec_plans.specs.Disk.{Asks, GivesAt, Writes, Cuts, Syncs, bytes_of, written, cut_to, more};
-ghost use Rattle.nr_ports.specs.Ports.{MemoryFiles, held_in, settled, with_file, with_held, holding, calling, listed, counted, fails_next, after_reading, disk_of};
+ghost use Rattle.std.specs.Prelude.{◌≡◌, ◌≤◌, ◌<◌, ◌↔◌, true, false, [], Some, option_map, length, is_err, IsTrue, IsErr, IfOk, OnOk, OnErr, IsErrOf};
+ghost use Rattle.nr_spec_plans.specs.Disk.{Asks, GivesAt, Writes, Cuts, Syncs, bytes_of, more};
+ghost use Rattle.nr_ports.specs.Ports.{MemoryFiles, Stores, LeavesImages, held_in, stored_in, at_rest, write_to, cut_by, synced, crashed_files, holding, calling, listed, counted, fails_next, after_reading, told_of, disk_of};
 ghost use Rattle.nr_ports.specs.Views.{by_reading, by_writing};
 
 use crate::calls::Calls;
 use crate::count::raise;
 use crate::fault::{Failed, WriteFault};
+use crate::file::File;
 use crate::files::Files;
-use crate::stored::{File, copy_from, cut_in, find, make_room, place, sync_in, write_in};
+use crate::stored::{copy_from, crash_all, cut_in, find, put_in, sync_in, write_in};
 use nr_bytes::Memory;
 use std::alloc::Global;
 use std::marker::Model;
@@ -51,15 +52,15 @@ impl MemFiles {
         }
     }
 
-    /// Places bytes under a name, in the place of what the name held, with nothing pending. `Memory` leaves all as it was.
+    /// Places bytes under a name, in the place of what the name held, all of them on the disk. `Memory` leaves all as it
+    /// was.
     pub fn put(&mut self, name: &str, bytes: &[u8]) -> Result<(), Memory>
-        ensures ok { OnOk result (self.new ≡ holding (settled name.now (with_file name.now bytes.now self.old.files)) self.old) }
+        ensures ok { OnOk result (Stores name.now (at_rest bytes.now) self.old.files self.new.files) }
+        ensures rest { self.new ≡ holding self.new.files self.old }
         ensures memory { OnErr result (self.new ≡ self.old) }
     {
         let bytes = Vec::from_slice(self.alloc, bytes)?;
-        place(self.alloc, &mut self.files, name, bytes)?;
-        sync_in(&mut self.files, name);
-        Ok(())
+        put_in(self.alloc, &mut self.files, name, bytes)
     }
 
     /// The bytes under a name. `None` exactly where it is absent.
@@ -96,6 +97,20 @@ impl MemFiles {
         ensures { result ≡ self.now.write_faults }
     {
         self.write_faults
+    }
+
+    /// Leaves what a crash may leave, and all of that is on the disk then. The files in the order in which their names
+    /// came, and the places of each upwards: each undetermined byte is the next of a filling, which is taken round, and
+    /// each file is so much longer than it must be, where it may. No number is listed any more.
+    pub fn crash(&mut self, fill: &[u8], extra: u64)
+        requires { 0 < length fill.now }
+        ensures crashed { self.new.files ≡ crashed_files fill.now extra 0 self.old.files }
+        ensures left { LeavesImages (told_of self.old) (told_of self.new) }
+        ensures calls { self.new.calls ≡ record { failing = []; made = self.old.calls.made } }
+        ensures rest { self.new ≡ calling self.new.calls (holding self.new.files self.old) }
+    {
+        crash_all(&mut self.files, fill, extra);
+        self.calls.forget();
     }
 
     // Counts a call that writes as one that failed.
@@ -152,44 +167,46 @@ impl Files for MemFiles {
         Ok(n)
     }
 
-    // It fails only where its number is listed, and then leaves what it holds as it was. Room is made
-    // first, so that memory may run out in a listed call too.
+    // It fails only where its number is listed, and then leaves what a read gives as it was, but counts as begun. Room
+    // is made first, so that memory may run out in a listed call too.
     fn write_at(&mut self, name: &str, at: u64, from: &[u8]) -> Result<(), WriteFault>
         requires { at ≤ length (bytes_of (held_in self.old.files name.now)) }
-        ensures written { OnOk result (self.new.files ≡ with_file name.now (written at from.now (bytes_of (held_in self.old.files name.now))) self.old.files) }
-        ensures nothing { OnErr result (self.new.files ≡ self.old.files) }
+        ensures written { OnOk result (Stores name.now (write_to true at from.now (stored_in self.old.files name.now)) self.old.files self.new.files) }
+        ensures begun { IsErrOf result WriteFault.Failed → Stores name.now (write_to false at from.now (stored_in self.old.files name.now)) self.old.files self.new.files }
+        ensures nothing { IsErrOf result WriteFault.Memory → self.new.files ≡ self.old.files }
         ensures failed { IsErrOf result WriteFault.Failed → IsTrue (fails_next self.old.calls) }
         ensures listed { IsTrue (fails_next self.old.calls) → IsErr result }
         ensures counts { self.new.calls ≡ counted self.old.calls }
         ensures writes { Writes name.now at from.now (disk_of self.old) (disk_of self.new) (by_writing result) }
     {
         let fails = self.calls.begin();
-        make_room(self.alloc, &mut self.files, name, at as usize, from)?;
+        write_in(self.alloc, &mut self.files, name, at as usize, from, !fails)?;
         if fails {
             return Err(self.fail_writing());
         }
-        write_in(self.alloc, &mut self.files, name, at as usize, from)?;
         Ok(())
     }
 
-    // It fails exactly where its number is listed, and then leaves what it holds as it was.
+    // It fails exactly where its number is listed, and then leaves what a read gives as it was, but counts as begun.
     fn cut(&mut self, name: &str, len: u64) -> Result<(), WriteFault>
-        ensures cut { OnOk result (self.new.files ≡ with_held name.now (cut_to len (held_in self.old.files name.now)) self.old.files) }
-        ensures nothing { OnErr result (self.new.files ≡ self.old.files) }
+        ensures cut { OnOk result (Stores name.now (cut_by true len (stored_in self.old.files name.now)) self.old.files self.new.files) }
+        ensures begun { IsErrOf result WriteFault.Failed → Stores name.now (cut_by false len (stored_in self.old.files name.now)) self.old.files self.new.files }
+        ensures nothing { IsErrOf result WriteFault.Memory → self.new.files ≡ self.old.files }
         ensures counts { self.new.calls ≡ counted self.old.calls }
         ensures failed { IsErrOf result WriteFault.Failed ↔ IsTrue (fails_next self.old.calls) }
         ensures cuts { Cuts name.now len (disk_of self.old) (disk_of self.new) (by_writing result) }
     {
-        if self.calls.begin() {
+        let fails = self.calls.begin();
+        cut_in(self.alloc, &mut self.files, name, len, !fails)?;
+        if fails {
             return Err(self.fail_writing());
         }
-        cut_in(self.alloc, &mut self.files, name, len)?;
         Ok(())
     }
 
     // It fails exactly where its number is listed, and wants no memory.
     fn sync(&mut self, name: &str) -> Result<(), WriteFault>
-        ensures settled { OnOk result (self.new.files ≡ settled name.now self.old.files) }
+        ensures settled { OnOk result (Stores name.now (synced (stored_in self.old.files name.now)) self.old.files self.new.files) }
         ensures nothing { OnErr result (self.new.files ≡ self.old.files) }
         ensures memory { IsErrOf result WriteFault.Memory → ⊥ }
         ensures counts { self.new.calls ≡ counted self.old.calls }

@@ -3,10 +3,9 @@ use Rattle.std.proofs.Common.{◌≡◌, ◌≢◌, ℕ, List, Option, None, Som
 use Rattle.std.proofs.Common.{[], ◌++◌, ◌+◌}
 use Rattle.std.proofs.lemmas.List.{append-nil}
 use Rattle.std.proofs.Math.Seq.{drop-nil}
-use Rattle.nr_spec_plans.specs.Disk.{written, cut_to, ChangesOnly, IsSynced}
+use Rattle.nr_spec_plans.specs.Disk.{written, cut_to, ChangesOnly, IsSynced, Loose, settled}
 use Rattle.nr_spec_plans.specs.Plans.{save}
 use Rattle.nr_spec_plans.specs.Laws.{Saved, Spares, Kept, Ends}
-use Rattle.std.proofs.Common.{Bool}
 use Rattle.nr_spec_plans.specs.Disk.{Leaves}
 use Rattle.std.specs.Prelude.{option_map, length}
 use Rattle.nr_spec_plans.specs.Disk.{Disk, Told, Fault, ReadFault, WriteFault, Memory, Writing, counting, telling, asked, asking, reading, ticking, bytes_of, Contents}
@@ -67,21 +66,21 @@ counts_one (Act action next) old new result (mid, Err fault, acts, (same, is)) =
 -- ---- plans that write nothing
 
 none_changed : (told : Option Told) → Unchanged told told
-none_changed told = record { holds = refl; pending = refl }
+none_changed told = record { holds = refl; loose = refl; past = refl }
 
 still : {old mid : Option Told} (new : Option Told) → Unchanged old mid → new ≡ mid → Unchanged old new
-still new u same = record { holds = ap (option_map (λ (t : Told). t.holds)) same ∙ u.holds; pending = ap (option_map (λ (t : Told). t.is_pending)) same ∙ u.pending }
+still new u same = record { holds = ap (option_map (λ (t : Told). t.holds)) same ∙ u.holds; loose = ap (option_map (λ (t : Told). t.loose)) same ∙ u.loose; past = ap (option_map (λ (t : Told). t.past)) same ∙ u.past }
 
 after : {old mid new : Option Told} → Unchanged old mid → Unchanged mid new → Unchanged old new
-after u v = record { holds = v.holds ∙ u.holds; pending = v.pending ∙ u.pending }
+after u v = record { holds = v.holds ∙ u.holds; loose = v.loose ∙ u.loose; past = v.past ∙ u.past }
 
 read_still : (n k : ℕ) (told : Option Told) → Unchanged told (option_map (reading n) (option_map (ticking k) told))
 read_still n k None = none_changed None
-read_still n k (Some t) = record { holds = refl; pending = refl }
+read_still n k (Some t) = record { holds = refl; loose = refl; past = refl }
 
 ask_still : (told : Option Told) → Unchanged told (option_map asking told)
 ask_still None = none_changed None
-ask_still (Some t) = record { holds = refl; pending = refl }
+ask_still (Some t) = record { holds = refl; loose = refl; past = refl }
 
 counting_told : {A : Type 0} (got : Result A Fault) (d : Disk) → (counting got d).told ≡ d.told
 counting_told (Ok answer) d = refl
@@ -89,7 +88,7 @@ counting_told (Err ReadFault) d = refl
 counting_told (Err WriteFault) d = refl
 counting_told (Err Memory) d = refl
 
-step_unchanged : (action : Action) (old new : Disk) (got : Result (Answer action) Fault) → IsRead action → Acts action old new got → Unchanged old.told new.told
+pub step_unchanged : (action : Action) (old new : Disk) (got : Result (Answer action) Fault) → IsRead action → Acts action old new got → Unchanged old.told new.told
 step_unchanged (Ask name) old new got is acts = still _ (ask_still old.told) (ap (λ (d : Disk). d.told) acts.after ∙ counting_told got (asked old))
 step_unchanged (Read name size) old new (Ok bytes) is acts = still _ (read_still (length bytes) acts.0.calls old.told) (ap (λ (d : Disk). d.told) acts.0.after)
 step_unchanged (Read name size) old new (Err fault) is (inl (f, same)) = still _ (none_changed _) (ap (λ (d : Disk). d.told) same)
@@ -167,11 +166,11 @@ written-cut bytes file left is =
     rw empty (ap (λ (b : List ℕ). Some b) (ap (λ (d : List ℕ). bytes ++ d) (drop-nil (0 + length bytes)) ∙ append-nil bytes))
 
 -- what three steps leave
-three : (name bytes : List ℕ) (t a b c : Told) → ChangesOnly name (λ file. file ≡ cut_to 0 (t.holds name)) t a → ChangesOnly name (λ file. file ≡ Some (written 0 bytes (bytes_of (a.holds name)))) a b → IsSynced name b c → Saved name bytes t c
-three name bytes t a b c cut wrote synced = record {
-  holds = synced.changes.named ∙ wrote.named ∙ written-cut bytes (t.holds name) (a.holds name) cut.named;
-  synced = synced.synced;
-  others = λ other ne. synced.changes.others other ne ∙ wrote.others other ne ∙ cut.others other ne;
+three : (name bytes : List ℕ) (la lb : Loose) (t a b c : Told) → ChangesOnly name (λ file. file ≡ cut_to 0 (t.holds name)) la t a → ChangesOnly name (λ file. file ≡ Some (written 0 bytes (bytes_of (a.holds name)))) lb a b → IsSynced name b c → Saved name bytes t c
+three name bytes la lb t a b c cut wrote synced = record {
+  holds = synced.named ∙ wrote.named ∙ written-cut bytes (t.holds name) (a.holds name) cut.named;
+  synced = synced.loose ∙ ap (λ (file : Option (List ℕ)). settled (bytes_of file)) (wrote.named ∙ written-cut bytes (t.holds name) (a.holds name) cut.named);
+  others = λ other ne. synced.others other ne ∙ wrote.others other ne ∙ cut.others other ne;
 }
 
 pub saved : (E : Type 0) (name bytes : List ℕ) (old new : Disk) (t : Told) → old.told ≡ Some t → Runs {E = E} (save name bytes) old new (Ok tt) → (u : Told) × (new.told ≡ Some u) × Saved name bytes t u
@@ -180,7 +179,7 @@ saved E name bytes old new t told (m1, Ok x, cuts, (m2, Ok y, writes, (m3, Ok z,
     let a = cuts.told t told in
     let b = writes.told a.0 a.1 in
     let c = syncs.told b.0 b.1 in
-    (c.0, ap (λ (d : Disk). d.told) same ∙ c.1, three name bytes t a.0 b.0 c.0 a.2 b.2 c.2)
+    (c.0, ap (λ (d : Disk). d.told) same ∙ c.1, three name bytes _ _ t a.0 b.0 c.0 a.2 b.2 c.2)
 saved E name bytes old new t told (m1, Ok x, cuts, (m2, Ok y, writes, (m3, Err f, syncs, (same, is)))) = absurd cc
 saved E name bytes old new t told (m1, Ok x, cuts, (m2, Err f, writes, (same, is))) = absurd cc
 saved E name bytes old new t told (m1, Err f, cuts, (same, is)) = absurd cc
@@ -188,7 +187,7 @@ saved E name bytes old new t told (m1, Err f, cuts, (same, is)) = absurd cc
 -- ---- files that a plan leaves alone
 
 all_kept : (other : List ℕ) (old new : Option Told) → Unchanged old new → Kept other old new
-all_kept other old new u = record { holds = by_holds old new u.holds; pending = by_pending old new u.pending }
+all_kept other old new u = record { holds = by_holds old new u.holds; loose = by_loose old new u.loose }
   where
     by_holds : (old new : Option Told) → option_map (λ t. t.holds) new ≡ option_map (λ t. t.holds) old → option_map (λ t. t.holds other) new ≡ option_map (λ t. t.holds other) old
     by_holds None None is = refl
@@ -196,44 +195,44 @@ all_kept other old new u = record { holds = by_holds old new u.holds; pending = 
     by_holds (Some t) None is = absurd cc
     by_holds (Some t) (Some u) is = let e : u.holds ≡ t.holds = cc in ap (λ (h : Contents). Some (h other)) e
 
-    by_pending : (old new : Option Told) → option_map (λ t. t.is_pending) new ≡ option_map (λ t. t.is_pending) old → option_map (λ t. t.is_pending other) new ≡ option_map (λ t. t.is_pending other) old
-    by_pending None None is = refl
-    by_pending None (Some u) is = absurd cc
-    by_pending (Some t) None is = absurd cc
-    by_pending (Some t) (Some u) is = let e : u.is_pending ≡ t.is_pending = cc in ap (λ (h : List ℕ → Bool). Some (h other)) e
+    by_loose : (old new : Option Told) → option_map (λ t. t.loose) new ≡ option_map (λ t. t.loose) old → option_map (λ t. t.loose other) new ≡ option_map (λ t. t.loose other) old
+    by_loose None None is = refl
+    by_loose None (Some u) is = absurd cc
+    by_loose (Some t) None is = absurd cc
+    by_loose (Some t) (Some u) is = let e : u.loose ≡ t.loose = cc in ap (λ (h : List ℕ → Loose). Some (h other)) e
 
 -- what a call that writes under one name leaves of another
 leaves_other : (other : List ℕ) (done torn : Told → Told → Type 0) (t u : Told) (got : Result (Unit {0}) Fault) → (done t u → Kept other (Some t) (Some u)) → (torn t u → Kept other (Some t) (Some u)) → Leaves got done torn t u → Kept other (Some t) (Some u)
 leaves_other other done torn t u (Ok x) d f leaves = d leaves
 leaves_other other done torn t u (Err ReadFault) d f leaves = absurd leaves
 leaves_other other done torn t u (Err WriteFault) d f leaves = f leaves
-leaves_other other done torn t u (Err Memory) d f leaves = record { holds = ap (λ (v : Told). Some (v.holds other)) leaves; pending = ap (λ (v : Told). Some (v.is_pending other)) leaves }
+leaves_other other done torn t u (Err Memory) d f leaves = record { holds = ap (λ (v : Told). Some (v.holds other)) leaves; loose = ap (λ (v : Told). Some (v.loose other)) leaves }
 
 kept_by : (other : List ℕ) (old new : Option Told) (told : Option Told) → old ≡ told → (told ≡ None → new ≡ None) → ((t : Told) → told ≡ Some t → (u : Told) × (new ≡ Some u) × Kept other (Some t) (Some u)) → Kept other old new
-kept_by other old new None is untold some = let n = untold refl in record { holds = rw (is, n) refl; pending = rw (is, n) refl }
-kept_by other old new (Some t) is untold some = let s = some t refl in record { holds = rw (is, s.1) s.2.holds; pending = rw (is, s.1) s.2.pending }
+kept_by other old new None is untold some = let n = untold refl in record { holds = rw (is, n) refl; loose = rw (is, n) refl }
+kept_by other old new (Some t) is untold some = let s = some t refl in record { holds = rw (is, s.1) s.2.holds; loose = rw (is, s.1) s.2.loose }
 
 writing_keeps : (other : List ℕ) (done torn : Told → Told → Type 0) (old new : Disk) (got : Result (Unit {0}) Fault) → ((t u : Told) → done t u → Kept other (Some t) (Some u)) → ((t u : Told) → torn t u → Kept other (Some t) (Some u))
     → Writing done torn old new got → Kept other old.told new.told
 writing_keeps other done torn old new got d f w =
     kept_by other old.told new.told old.told refl w.untold (λ t is. let s = w.told t is in (s.0, s.1, leaves_other other done torn t s.0 got (d t s.0) (f t s.0) s.2))
 
-changes_keep : (other name : List ℕ) (P : Option (List ℕ) → Type 0) (t u : Told) → other ≢ name → ChangesOnly name P t u → Kept other (Some t) (Some u)
-changes_keep other name P t u ne c = record { holds = ap (λ (f : Option (List ℕ)). Some f) (c.others other ne); pending = ap (λ (b : Bool). Some b) (c.pending other ne) }
+changes_keep : (other name : List ℕ) (P : Option (List ℕ) → Type 0) (now : Loose) (t u : Told) → other ≢ name → ChangesOnly name P now t u → Kept other (Some t) (Some u)
+changes_keep other name P now t u ne c = record { holds = ap (λ (f : Option (List ℕ)). Some f) (c.others other ne); loose = ap (λ (b : Loose). Some b) (c.others_loose other ne) }
 
-step_keeps : (other : List ℕ) (action : Action) (old new : Disk) (got : Result (Answer action) Fault) → Spares other action → Acts action old new got → Kept other old.told new.told
+pub step_keeps : (other : List ℕ) (action : Action) (old new : Disk) (got : Result (Answer action) Fault) → Spares other action → Acts action old new got → Kept other old.told new.told
 step_keeps other (Ask name) old new got spares acts = all_kept other old.told new.told (step_unchanged (Ask name) old new got tt acts)
 step_keeps other (Read name size) old new got spares acts = all_kept other old.told new.told (step_unchanged (Read name size) old new got tt acts)
-step_keeps other (Cut name len) old new got spares acts = writing_keeps other _ _ old new got (λ t u. changes_keep other name _ t u spares) (λ t u. changes_keep other name _ t u spares) acts
-step_keeps other (Write name at bytes) old new got spares acts = writing_keeps other _ _ old new got (λ t u. changes_keep other name _ t u spares) (λ t u. changes_keep other name _ t u spares) acts
+step_keeps other (Cut name len) old new got spares acts = writing_keeps other _ _ old new got (λ t u. changes_keep other name _ _ t u spares) (λ t u. changes_keep other name _ _ t u spares) acts
+step_keeps other (Write name at bytes) old new got spares acts = writing_keeps other _ _ old new got (λ t u. changes_keep other name _ _ t u spares) (λ t u. changes_keep other name _ _ t u spares) acts
 step_keeps other (Sync name) old new got spares acts =
-    writing_keeps other _ _ old new got (λ t u s. changes_keep other name _ t u spares s.changes) (λ t u same. record { holds = ap (λ (v : Told). Some (v.holds other)) same; pending = ap (λ (v : Told). Some (v.is_pending other)) same }) acts
+    writing_keeps other _ _ old new got (λ t u s. changes_keep other name _ _ t u spares s) (λ t u same. record { holds = ap (λ (v : Told). Some (v.holds other)) same; loose = ap (λ (v : Told). Some (v.loose other)) same }) acts
 
 kept_again : (other : List ℕ) {old mid new : Option Told} → Kept other old mid → Kept other mid new → Kept other old new
-kept_again other a b = record { holds = b.holds ∙ a.holds; pending = b.pending ∙ a.pending }
+kept_again other a b = record { holds = b.holds ∙ a.holds; loose = b.loose ∙ a.loose }
 
 kept_same : (other : List ℕ) (old new : Disk) → new ≡ old → Kept other old.told new.told
-kept_same other old new same = record { holds = ap (λ (d : Disk). option_map (λ (t : Told). t.holds other) d.told) same; pending = ap (λ (d : Disk). option_map (λ (t : Told). t.is_pending other) d.told) same }
+kept_same other old new same = record { holds = ap (λ (d : Disk). option_map (λ (t : Told). t.holds other) d.told) same; loose = ap (λ (d : Disk). option_map (λ (t : Told). t.loose other) d.told) same }
 
 pub spares_others : {E A : Type 0} (other : List ℕ) (p : Plan E A) (old new : Disk) (result : Result A (Halt E)) → Each (Spares other) p → Runs p old new result → Kept other old.told new.told
 unfolding Runs

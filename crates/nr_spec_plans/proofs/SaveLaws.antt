@@ -2,7 +2,7 @@
 use Rattle.std.proofs.Common.{◌≡◌, ◌≢◌, ℕ, ◌+◌, List, [], ◌++◌, length, Option, None, Some, Result, Ok, Err, refl, sym, ap, subst, ◌∙◌, inl, inr, ◌⊎◌, ⊎_elim, arith}
 use Rattle.std.proofs.lemmas.List.{append-nil}
 use Rattle.std.proofs.Math.Seq.{drop-nil}
-use Rattle.nr_spec_plans.specs.Disk.{Disk, Told, Fault, ReadFault, WriteFault, Memory, Writing, Leaves, ChangesOnly, IsSynced, Torn, TornCut, TornWrite, cut_to, written, bytes_of, ticking}
+use Rattle.nr_spec_plans.specs.Disk.{Disk, Told, Fault, ReadFault, WriteFault, Memory, Writing, Leaves, ChangesOnly, IsSynced, Torn, TornCut, TornWrite, cut_to, written, bytes_of, ticking, Loose}
 use Rattle.nr_spec_plans.specs.Plans.{Plan, Done, Refuse, Room, Act, Ask, Read, Cut, Write, Sync, Halt, Faulted, Runs, save, followed_by}
 use Rattle.nr_spec_plans.specs.Laws.{Each, IsRead, IsLeftBy, outcome, answer_of}
 
@@ -50,22 +50,22 @@ emptied (Some bytes) = refl
 whole : (bytes : List ℕ) → Some (written 0 bytes (bytes_of (Some []))) ≡ Some bytes
 whole bytes = ap (λ (b : List ℕ). Some b) (ap (λ (d : List ℕ). bytes ++ d) (drop-nil (0 + length bytes)) ∙ append-nil bytes)
 
-cut_left : (name bytes : List ℕ) (t u : Told) (fault : Fault)
-    → Leaves (Err fault) (λ t u. ChangesOnly name (λ file. file ≡ cut_to 0 (t.holds name)) t u) (λ t u. ChangesOnly name (Torn (TornCut 0) (t.holds name)) t u) t u
+cut_left : (name bytes : List ℕ) (now : Told → Loose) (t u : Told) (fault : Fault)
+    → Leaves (Err fault) (λ t u. ChangesOnly name (λ file. file ≡ cut_to 0 (t.holds name)) (now t) t u) (λ t u. ChangesOnly name (Torn (TornCut 0) (t.holds name)) (now t) t u) t u
     → IsLeftBy bytes (t.holds name) (u.holds name)
-cut_left name bytes t u ReadFault left = absurd left
-cut_left name bytes t u WriteFault left = inr (inl left.named)
-cut_left name bytes t u Memory left = inl (ap (λ (v : Told). v.holds name) left)
+cut_left name bytes now t u ReadFault left = absurd left
+cut_left name bytes now t u WriteFault left = inr (inl left.named)
+cut_left name bytes now t u Memory left = inl (ap (λ (v : Told). v.holds name) left)
 
 nothing_written : (n : ℕ) → Torn (TornWrite 0 n) (Some []) (Some [])
 nothing_written n = record { there = λ is. is; bytes = record { before = refl; rest = refl; no_shorter = omega arith; no_longer = omega arith } }
 
-write_left : (name bytes : List ℕ) (old : Option (List ℕ)) (t u : Told) (fault : Fault) → t.holds name ≡ Some []
-    → Leaves (Err fault) (λ t u. ChangesOnly name (λ file. file ≡ Some (written 0 bytes (bytes_of (t.holds name)))) t u) (λ t u. ChangesOnly name (Torn (TornWrite 0 (length bytes)) (t.holds name)) t u) t u
+write_left : (name bytes : List ℕ) (now : Told → Loose) (old : Option (List ℕ)) (t u : Told) (fault : Fault) → t.holds name ≡ Some []
+    → Leaves (Err fault) (λ t u. ChangesOnly name (λ file. file ≡ Some (written 0 bytes (bytes_of (t.holds name)))) (now t) t u) (λ t u. ChangesOnly name (Torn (TornWrite 0 (length bytes)) (t.holds name)) (now t) t u) t u
     → IsLeftBy bytes old (u.holds name)
-write_left name bytes old t u ReadFault empty left = absurd left
-write_left name bytes old t u WriteFault empty left = inr (inr (inl (subst (λ (f : Option (List ℕ)). Torn (TornWrite 0 (length bytes)) f (u.holds name)) empty left.named)))
-write_left name bytes old t u Memory empty left =
+write_left name bytes now old t u ReadFault empty left = absurd left
+write_left name bytes now old t u WriteFault empty left = inr (inr (inl (subst (λ (f : Option (List ℕ)). Torn (TornWrite 0 (length bytes)) f (u.holds name)) empty left.named)))
+write_left name bytes now old t u Memory empty left =
     inr (inr (inl (subst (λ (f : Option (List ℕ)). Torn (TornWrite 0 (length bytes)) (Some []) f) (sym (ap (λ (v : Told). v.holds name) left ∙ empty)) (nothing_written (length bytes)))))
 
 sync_left : (name : List ℕ) (t u : Told) (fault : Fault) → Leaves (Err fault) (λ t u. IsSynced name t u) (λ t u. u ≡ ticking 1 t) t u → u.holds name ≡ t.holds name
@@ -78,11 +78,11 @@ pub save_leaves : (E : Type 0) (name bytes : List ℕ) (old new : Disk) (t : Tol
 unfolding Runs followed_by save
 save_leaves E name bytes old new t result told (m1, Err f, cuts, (same, is)) =
     let a = cuts.told t told in
-    (a.0, ap (λ (d : Disk). d.told) same ∙ a.1, cut_left name bytes t a.0 f a.2)
+    (a.0, ap (λ (d : Disk). d.told) same ∙ a.1, cut_left name bytes _ t a.0 f a.2)
 save_leaves E name bytes old new t result told (m1, Ok x, cuts, (m2, Err f, writes, (same, is))) =
     let a = cuts.told t told in
     let b = writes.told a.0 a.1 in
-    (b.0, ap (λ (d : Disk). d.told) same ∙ b.1, write_left name bytes (t.holds name) a.0 b.0 f (a.2.named ∙ emptied (t.holds name)) b.2)
+    (b.0, ap (λ (d : Disk). d.told) same ∙ b.1, write_left name bytes _ (t.holds name) a.0 b.0 f (a.2.named ∙ emptied (t.holds name)) b.2)
 save_leaves E name bytes old new t result told (m1, Ok x, cuts, (m2, Ok y, writes, (m3, Err f, syncs, (same, is)))) =
     let a = cuts.told t told in
     let b = writes.told a.0 a.1 in
@@ -94,7 +94,7 @@ save_leaves E name bytes old new t result told (m1, Ok x, cuts, (m2, Ok y, write
     let b = writes.told a.0 a.1 in
     let c = syncs.told b.0 b.1 in
     let empty = a.2.named ∙ emptied (t.holds name) in
-    (c.0, ap (λ (d : Disk). d.told) same ∙ c.1, inr (inr (inr (c.2.changes.named ∙ b.2.named ∙ ap (λ (h : Option (List ℕ)). Some (written 0 bytes (bytes_of h))) empty ∙ whole bytes))))
+    (c.0, ap (λ (d : Disk). d.told) same ∙ c.1, inr (inr (inr (c.2.named ∙ b.2.named ∙ ap (λ (h : Option (List ℕ)). Some (written 0 bytes (bytes_of h))) empty ∙ whole bytes))))
 
 -- ---- outcomes of plans one after another
 

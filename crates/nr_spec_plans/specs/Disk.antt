@@ -1,5 +1,5 @@
 -- What files and a sink stand for, and what each call does to that.
-use Rattle.std.specs.Prelude.{◌≡◌, ◌≢◌, ℕ, ◌+◌, ◌-◌, ◌^◌, ◌≤◌, ◌<◌, ◌==◌, min, max, Bool, false, if◌then◌else◌, IsTrue}
+use Rattle.std.specs.Prelude.{◌≡◌, ◌≢◌, ℕ, ◌+◌, ◌-◌, ◌^◌, ◌≤◌, ◌<◌, ◌==◌, min, max, Bool, if◌then◌else◌, IsTrue}
 use Rattle.std.specs.Prelude.{List, [], ◌∷◌, ◌++◌, length, take, drop, Option, None, Some, IsSome, unwrap_or, option_map, Result, Ok, Err, IfOk, IsErr}
 use Rattle.std.specs.List.{list_any}
 
@@ -17,12 +17,32 @@ more n count = max count (min (count + n) (2 ^ 64 - 1))
 
 -- ---- files
 
+-- places of a file, from one on and up to another
+pub record Range : Type 0 where
+  pub from : ℕ
+  pub to : ℕ
+
+-- what isn't settled of a file, by what was done to it since its last sync that went well
+pub record Loose : Type 0 where
+  -- the least and the greatest length
+  pub least : ℕ
+  pub greatest : ℕ
+  -- what was written
+  pub written : List Range
+
+-- what files hold at a moment, and what isn't settled of it
+pub record Moment : Type 0 where
+  pub holds : Contents
+  pub loose : List ℕ → Loose
+
 -- what files tell of themselves
 pub record Told : Type 0 where
   -- what each name holds
   pub holds : Contents
-  -- whether a crash may leave under a name something else than a read gives
-  pub is_pending : List ℕ → Bool
+  -- what a crash may change of it
+  pub loose : List ℕ → Loose
+  -- the moments before each call that changed something, the last one first, where a record of them is kept
+  pub past : Option (List Moment)
   -- how often a size was asked for
   pub asks : ℕ
   -- how many bytes were given
@@ -68,7 +88,7 @@ FailsListed old got = (t : Told) → old.told ≡ Some t → IsTrue (is_listed t
 
 -- some calls later
 abbrev pub ticking : ℕ → Told → Told
-ticking calls t = record { holds = t.holds; is_pending = t.is_pending; asks = t.asks; reads = t.reads; calls = more calls t.calls; listed = t.listed }
+ticking calls t = record { holds = t.holds; loose = t.loose; past = t.past; asks = t.asks; reads = t.reads; calls = more calls t.calls; listed = t.listed }
 
 abbrev pub ticked : ℕ → Disk → Disk
 ticked calls d = telling (option_map (ticking calls) d.told) d
@@ -77,14 +97,14 @@ ticked calls d = telling (option_map (ticking calls) d.told) d
 
 -- a size was asked for once more
 abbrev pub asking : Told → Told
-asking t = record { holds = t.holds; is_pending = t.is_pending; asks = more 1 t.asks; reads = t.reads; calls = more 1 t.calls; listed = t.listed }
+asking t = record { holds = t.holds; loose = t.loose; past = t.past; asks = more 1 t.asks; reads = t.reads; calls = more 1 t.calls; listed = t.listed }
 
 abbrev pub asked : Disk → Disk
 asked d = telling (option_map asking d.told) d
 
 -- n bytes more were given
 abbrev pub reading : ℕ → Told → Told
-reading n t = record { holds = t.holds; is_pending = t.is_pending; asks = t.asks; reads = more n t.reads; calls = t.calls; listed = t.listed }
+reading n t = record { holds = t.holds; loose = t.loose; past = t.past; asks = t.asks; reads = more n t.reads; calls = t.calls; listed = t.listed }
 
 abbrev pub read : ℕ → Disk → Disk
 read n d = telling (option_map (reading n) d.told) d
@@ -149,15 +169,51 @@ abbrev pub cut_to : ℕ → Option (List ℕ) → Option (List ℕ)
 cut_to len (Some bytes) = Some (take len bytes)
 cut_to len None = if len == 0 then Some [] else None
 
--- Nothing has changed but under one name, which holds what has P.
-pub record ChangesOnly (name : List ℕ) (P : Option (List ℕ) → Type 0) (t u : Told) : Type 0 where
+-- what is told at a moment
+abbrev pub moment_of : Told → Moment
+moment_of t = record { holds = t.holds; loose = t.loose }
+
+-- The past has one moment more.
+abbrev pub later : Told → Option (List Moment)
+later t = option_map (λ past. moment_of t ∷ past) t.past
+
+-- Nothing has changed but under one name, which holds what has P and is as loose as this.
+pub record ChangesOnly (name : List ℕ) (P : Option (List ℕ) → Type 0) (now : Loose) (t u : Told) : Type 0 where
   pub named : P (u.holds name)
+  pub loose : u.loose name ≡ now
   pub others : (other : List ℕ) → other ≢ name → u.holds other ≡ t.holds other
-  pub pending : (other : List ℕ) → other ≢ name → u.is_pending other ≡ t.is_pending other
+  pub others_loose : (other : List ℕ) → other ≢ name → u.loose other ≡ t.loose other
+  pub past : u.past ≡ later t
   pub asks : u.asks ≡ t.asks
   pub reads : u.reads ≡ t.reads
   pub calls : u.calls ≡ more 1 t.calls
   pub listed : u.listed ≡ t.listed
+
+-- ---- what a crash may change
+
+-- All is on the disk.
+abbrev pub settled : List ℕ → Loose
+settled bytes = record { least = length bytes; greatest = length bytes; written = [] }
+
+-- A length was reached.
+abbrev pub reached : ℕ → Loose → Loose
+reached len l = record { least = min l.least len; greatest = max l.greatest len; written = l.written }
+
+-- Bytes were written from a place on into a file of this length, or may have been: a write that failed counts as one that went
+-- well.
+abbrev pub loose_by_write : (at n len : ℕ) → Loose → Loose
+loose_by_write at n len l =
+    reached (max len (at + n)) (record { least = l.least; greatest = l.greatest; written = l.written ++ record { from = at; to = at + n } ∷ [] })
+
+-- A file of this length was cut, or may have been.
+abbrev pub loose_by_cut : (to len : ℕ) → Loose → Loose
+loose_by_cut to len l = reached (min len to) l
+
+-- the length of what a name holds
+abbrev pub size_of : Told → List ℕ → ℕ
+size_of t name = length (bytes_of (t.holds name))
+
+-- ---- what calls that write leave
 
 -- What a call leaves of what is told: all that the call is to do, or any part of that where it failed, or what was where it
 -- found no memory.
@@ -177,18 +233,17 @@ pub record Writing (done torn : Told → Told → Type 0) (old new : Disk) (got 
 
 abbrev pub Writes : (name : List ℕ) (at : ℕ) (from : List ℕ) (old new : Disk) → Result (Unit {0}) Fault → Type 0
 Writes name at from =
-    Writing (λ t u. ChangesOnly name (λ file. file ≡ Some (written at from (bytes_of (t.holds name)))) t u)
-    (λ t u. ChangesOnly name (Torn (TornWrite at (length from)) (t.holds name)) t u)
+    Writing (λ t u. ChangesOnly name (λ file. file ≡ Some (written at from (bytes_of (t.holds name)))) (loose_by_write at (length from) (size_of t name) (t.loose name)) t u)
+    (λ t u. ChangesOnly name (Torn (TornWrite at (length from)) (t.holds name)) (loose_by_write at (length from) (size_of t name) (t.loose name)) t u)
 
 abbrev pub Cuts : (name : List ℕ) (len : ℕ) (old new : Disk) → Result (Unit {0}) Fault → Type 0
 Cuts name len =
-    Writing (λ t u. ChangesOnly name (λ file. file ≡ cut_to len (t.holds name)) t u)
-    (λ t u. ChangesOnly name (Torn (TornCut len) (t.holds name)) t u)
+    Writing (λ t u. ChangesOnly name (λ file. file ≡ cut_to len (t.holds name)) (loose_by_cut len (size_of t name) (t.loose name)) t u)
+    (λ t u. ChangesOnly name (Torn (TornCut len) (t.holds name)) (loose_by_cut len (size_of t name) (t.loose name)) t u)
 
--- what a sync that went well leaves: what a read gives, and nothing pending
-pub record IsSynced (name : List ℕ) (t u : Told) : Type 0 where
-  pub changes : ChangesOnly name (λ file. file ≡ t.holds name) t u
-  pub synced : u.is_pending name ≡ false
+-- A sync that went well leaves what a read gives, and all of that is on the disk.
+abbrev pub IsSynced : (name : List ℕ) (t u : Told) → Type 0
+IsSynced name t u = ChangesOnly name (λ file. file ≡ t.holds name) (settled (bytes_of (t.holds name))) t u
 
 abbrev pub Syncs : (name : List ℕ) (old new : Disk) → Result (Unit {0}) Fault → Type 0
 Syncs name = Writing (λ t u. IsSynced name t u) (λ t u. u ≡ ticking 1 t)

@@ -1,6 +1,6 @@
 -- What holds of every plan, or of every plan of a kind.
-use Rattle.std.specs.Prelude.{◌≡◌, ◌≢◌, ◌⊎◌, ℕ, false, List, [], ◌∷◌, Option, Some, Result, Ok, Err, option_map, take, length}
-use Rattle.nr_spec_plans.specs.Disk.{Contents, Disk, Told, Fault, more, bytes_of, ReadFault, WriteFault, Memory, Torn, TornCut, TornWrite}
+use Rattle.std.specs.Prelude.{◌≡◌, ◌≢◌, ◌⊎◌, ℕ, List, [], ◌∷◌, Option, Some, Result, Ok, Err, option_map, take, length}
+use Rattle.nr_spec_plans.specs.Disk.{Contents, Disk, Told, Fault, more, bytes_of, ReadFault, WriteFault, Memory, Torn, TornCut, TornWrite, settled}
 use Rattle.nr_spec_plans.specs.Plans.{Action, Answer, Ask, Read, Cut, Write, Sync, Plan, Done, Refuse, Room, Act, Halt, Refused, Faulted}
 
 -- ---- causes
@@ -48,7 +48,8 @@ Each kind (Act action next) = kind action × ((answer : Answer action) → Each 
 -- what the files hold, and what a crash may change of it, is as before
 pub record Unchanged (old new : Option Told) : Type 0 where
   pub holds : option_map (λ t. t.holds) new ≡ option_map (λ t. t.holds) old
-  pub pending : option_map (λ t. t.is_pending) new ≡ option_map (λ t. t.is_pending) old
+  pub loose : option_map (λ t. t.loose) new ≡ option_map (λ t. t.loose) old
+  pub past : option_map (λ t. t.past) new ≡ option_map (λ t. t.past) old
 
 -- what the contents give by a plan that writes nothing
 abbrev pub answer_of : Contents → (action : Action) → Answer action
@@ -75,7 +76,7 @@ Gives decided (Err (Faulted fault)) = Unit {0}
 -- The file holds these bytes, and a crash leaves them; every other name holds what it held.
 pub record Saved (name bytes : List ℕ) (t u : Told) : Type 0 where
   pub holds : u.holds name ≡ Some bytes
-  pub synced : u.is_pending name ≡ false
+  pub synced : u.loose name ≡ settled bytes
   pub others : (other : List ℕ) → other ≢ name → u.holds other ≡ t.holds other
 
 -- ---- files that a plan leaves alone
@@ -91,7 +92,7 @@ Spares other (Sync name) = other ≢ name
 -- what is told of one name is as before
 pub record Kept (other : List ℕ) (old new : Option Told) : Type 0 where
   pub holds : option_map (λ t. t.holds other) new ≡ option_map (λ t. t.holds other) old
-  pub pending : option_map (λ t. t.is_pending other) new ≡ option_map (λ t. t.is_pending other) old
+  pub loose : option_map (λ t. t.loose other) new ≡ option_map (λ t. t.loose other) old
 
 -- ---- endings
 

@@ -1,17 +1,18 @@
-use Rattle.std.proofs.Common.{set, take, rules, ◌∙◌, ap, sym}
-use Rattle.nr_spec_plans.specs.Disk.{cut_to}
-use Rattle.nr_ports.specs.Ports.{with_held}
-use Rattle.nr_ports.proofs.Names.{found, missing, cut_absent}
+use Rattle.std.proofs.Common.{rules, ◌≡◌, false, ◌&&◌}
+use Rattle.std.specs.Prelude.{◌==◌}
+use Rattle.nr_ports.specs.Ports.{cut_by}
+use Rattle.nr_ports.proofs.Names.{changed, added_as, uncut}
 use Rattle.nr_ports.proofs.stored.cut_in.Goals as goal
 
 pub returns-in-Some-clause-ok : goal.returns-in-Some-clause-ok
-returns-in-Some-clause-ok c =
-    let files = c.args.files.now.items in
-    let there = found c.args.name.now files c.in-Some.place c.index_mut.result.now (search rules) (search rules) in
-    ap (λ f. set files c.in-Some.place f) c.cut.ensures ∙ there.placed (take c.args.len c.index_mut.result.now.bytes) ∙ ap (λ f. with_held c.args.name.now (cut_to c.args.len f) files) (sym there.held)
+returns-in-Some-clause-ok c = changed c.args.name.now c.args.files.now.items c.in-Some.place c.index_mut.result.now c.cut.new.self (cut_by c.args.done c.args.to) (search rules) (search rules) c.cut.ensures
 
-pub returns-in-None-2-clause-ok : goal.returns-in-None-2-clause-ok
-returns-in-None-2-clause-ok c =
-    let files = c.args.files.now.items in
-    let none = missing c.args.name.now files (search rules) in
-    ap (λ f. with_held c.args.name.now f files) (sym (cut_absent c.args.len c.if-len-eq0.false)) ∙ ap (λ f. with_held c.args.name.now (cut_to c.args.len f) files) (sym none.held)
+pub returns-in_ok-push-in-None-clause-ok : goal.returns-in_ok-push-in-None-clause-ok
+returns-in_ok-push-in-None-clause-ok c =
+    added_as c.args.name.now c.args.files.now.items _ c.in_ok-file-in-None.file c.cut-in-None.new.self (cut_by c.args.done c.args.to) (search rules) c.in_ok-file-in-None.ensures c.cut-in-None.ensures c.in_ok-push-in-None.ensures.items
+
+pub returns-else-to-eq0-clause-ok : goal.returns-else-to-eq0-clause-ok
+returns-else-to-eq0-clause-ok c = uncut c.args.name.now c.args.files.now.items c.args.done c.args.to (search rules) (let h : (c.args.done && (c.args.to == 0)) ≡ false = search rules in h)
+
+pub returns-else-done-clause-ok : goal.returns-else-done-clause-ok
+returns-else-done-clause-ok c = uncut c.args.name.now c.args.files.now.items c.args.done c.args.to (search rules) (let h : (c.args.done && (c.args.to == 0)) ≡ false = search rules in h)

@@ -1,12 +1,10 @@
-use Rattle.std.proofs.Common.{set, rules, ◌∙◌, ap}
-use Rattle.nr_ports.proofs.Names.{found, missing}
+use Rattle.std.proofs.Common.{rules}
+use Rattle.nr_ports.specs.Ports.{synced}
+use Rattle.nr_ports.proofs.Names.{changed, unchanged}
 use Rattle.nr_ports.proofs.stored.sync_in.Goals as goal
 
 pub returns-in-Some : goal.returns-in-Some
-returns-in-Some c =
-    let files = c.args.files.now.items in
-    let there = found c.args.name.now files c.in-Some.place c.index_mut.result.now (search rules) (search rules) in
-    ap (λ f. set files c.in-Some.place f) c.sync.ensures ∙ there.settles
+returns-in-Some c = changed c.args.name.now c.args.files.now.items c.in-Some.place c.index_mut.result.now c.sync.new.self synced (search rules) (search rules) c.sync.ensures
 
 pub returns-in_default : goal.returns-in_default
-returns-in_default c = (missing c.args.name.now c.args.files.now.items (search rules)).settles
+returns-in_default c = unchanged c.args.name.now c.args.files.now.items (search rules)
