@@ -1,11 +1,11 @@
 -- Answers with a fault are refused there.
-use Rattle.std.proofs.Common.{◌≡◌, ℕ, zero, suc, ◌+◌, ◌<◌, ◌≤◌, Bool, true, false, eqb, cond, List, [], ◌∷◌, length, Option, Some, Result, Ok, Err, refl, sym, ap, subst, ◌∙◌, arith}
+use Rattle.std.proofs.Common.{◌≡◌, ℕ, zero, suc, ◌+◌, ◌<◌, Bool, false, cond, List, [], ◌∷◌, length, Some, Result, Ok, Err, refl, sym, ap, subst, ◌∙◌, arith}
 use Rattle.std.proofs.lemmas.Bool.{ne_eqb}
 use Rattle.nr_spec_wire.specs.Reading.{Spot, start_of, ◌>>=◌, ends_at}
 use Rattle.nr_spec_wire.proofs.Steps.{ok_is, bind_ok}
 use Rattle.nr_spec_log.specs.Chain.{LogEntry}
 use Rattle.nr_spec_log.specs.Authenticator.{wanted_at}
-use Rattle.nr_spec_log.specs.Answer.{Opening, AnswerFile, opening_at, entry_at, entries_at, answer_of, head_of, last_time, is_later}
+use Rattle.nr_spec_log.specs.Answer.{opening_at, entry_at, entries_at, answer_of, head_of, last_time, is_later}
 use Rattle.nr_laws_files.specs.Answers.{AnswerFault, opening_fault, entry_fault, head_fault, more, is_asked}
 use Rattle.nr_laws_files.proofs.Cases.{then_err}
 use Rattle.nr_laws_files.proofs.AuthAgain.{wanted_faults}

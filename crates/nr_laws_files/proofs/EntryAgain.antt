@@ -1,10 +1,9 @@
 -- Entries with a fault are refused there.
-use Rattle.std.proofs.Common.{◌≡◌, ℕ, ◌+◌, ◌<◌, ◌≤◌, Bool, true, false, leb, List, drop, Result, Err, refl, sym, ap, subst, ◌∙◌, arith}
+use Rattle.std.proofs.Common.{◌≡◌, ℕ, ◌+◌, Bool, drop, Err, sym, subst, arith}
 use Rattle.std.proofs.lemmas.Bool.{le-leb, lt-leb}
 use Rattle.byteorder.specs.Endian.{big_number}
-use Rattle.nr_spec_wire.specs.Reading.{Spot, ◌>>=◌, number_at, bytes_at}
-use Rattle.nr_spec_log.specs.Answer.{entry_at, is_wanted, checkpoint_kind}
-use Rattle.nr_laws_files.specs.Cuts.{IsCut}
+use Rattle.nr_spec_wire.specs.Reading.{Spot, number_at}
+use Rattle.nr_spec_log.specs.Answer.{entry_at}
 use Rattle.nr_laws_files.specs.Answers.{EntryFault, time_cut, time_back, kind_cut, kind_other, size_cut, size_other, content_cut}
 use Rattle.nr_laws_files.proofs.Cases.{stands_first, then_err, wants_then, wants_fails, number_short, bytes_short, number_long}
 

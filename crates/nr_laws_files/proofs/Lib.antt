@@ -7,3 +7,4 @@ pub mod AuthAgain
 pub mod EntryAgain
 pub mod OpeningAgain
 pub mod AnswerAgain
+pub mod FileAgain

@@ -1,19 +1,18 @@
 -- What stands before the entries, with a fault, is refused there.
-use Rattle.std.proofs.Common.{◌≡◌, ◌≢◌, ℕ, ◌+◌, ◌<◌, ◌≤◌, Bool, true, false, leb, cond, List, length, take, drop, Option, Some, None, Result, Ok, Err, refl, sym, ap, subst, ◌∙◌, arith}
+use Rattle.std.proofs.Common.{◌≡◌, ◌≢◌, ℕ, ◌+◌, ◌<◌, ◌≤◌, Bool, true, false, leb, List, length, take, drop, Option, Some, None, Result, Ok, Err, refl, sym, ap, subst, ◌∙◌, arith}
 use Rattle.std.specs.Str.{bytes_eq}
 use Rattle.std.proofs.lemmas.Bool.{le-leb, lt-leb}
 use Rattle.std.proofs.lemmas.Slice.Eq.{bytes_eq-Decides}
-use Rattle.byteorder.specs.Endian.{big_number}
 use Rattle.nr_spec_wire.specs.Reading.{Spot, Read, ◌>>=◌, number_at, bytes_at, wants}
 use Rattle.nr_spec_log.specs.Authenticator.{magic_at, digest_size}
-use Rattle.nr_spec_log.specs.Answer.{Opening, answer_magic, opening_at, body_at, is_first, is_prev, is_body_flag, is_later, most_body}
+use Rattle.nr_spec_log.specs.Answer.{Opening, answer_magic, opening_at, body_at, is_later, most_body}
 use Rattle.nr_laws_files.specs.Cuts.{IsCut}
-use Rattle.nr_laws_files.specs.Answers.{asn_in, first_in, prev_in, flag_in, size_in, HasFlag, HasBody, no_body, some_body, OpeningFault, magic_cut, magic_other, asn_cut, first_cut, first_other, prev_cut, prev_other, flag_cut, flag_other, size_cut, size_other, body_cut, count_cut, count_other}
+use Rattle.nr_laws_files.specs.Answers.{asn_in, first_in, prev_in, size_in, HasFlag, HasBody, no_body, some_body, OpeningFault, magic_cut, magic_other, asn_cut, first_cut, first_other, prev_cut, prev_other, flag_cut, flag_other, size_cut, size_other, body_cut, count_cut, count_other}
 use Rattle.nr_laws_files.proofs.Cases.{Stands, stands_first, then_err, wants_then, wants_fails, number_short, bytes_short, Long, number_long, bytes_long}
 
 -- ---- steps
 
-wants_ok : {A : Type 0} (b : Bool) (place : ℕ) (x : A) → b ≡ true → wants b place x ≡ Ok x
+pub wants_ok : {A : Type 0} (b : Bool) (place : ℕ) (x : A) → b ≡ true → wants b place x ≡ Ok x
 wants_ok true place x e = refl
 wants_ok false place x e = absurd cc
 
@@ -37,11 +36,11 @@ magic_long s long same =
       stands = b.stands;
     }
 
-magic_other_is : (s : Spot) → 4 ≤ length s.rest → take 4 s.rest ≢ answer_magic → magic_at answer_magic s ≡ Err s.at
-magic_other_is s long other =
+pub magic_other_is : (magic : List ℕ) (s : Spot) → 4 ≤ length s.rest → take 4 s.rest ≢ magic → magic_at magic s ≡ Err s.at
+magic_other_is magic s long other =
     let b = bytes_long s s 0 4 (stands_first s) long in
-    ap (λ r. r >>= (λ found. wants (bytes_eq found.0 answer_magic) s.at found)) b.is
-    ∙ wants_not (bytes_eq (take 4 s.rest) answer_magic) s.at (take 4 s.rest, b.next) (not_same (take 4 s.rest) answer_magic (bytes_eq (take 4 s.rest) answer_magic) refl other)
+    ap (λ r. r >>= (λ found. wants (bytes_eq found.0 magic) s.at found)) b.is
+    ∙ wants_not (bytes_eq (take 4 s.rest) magic) s.at (take 4 s.rest, b.next) (not_same (take 4 s.rest) magic (bytes_eq (take 4 s.rest) magic) refl other)
 
 -- ---- what stands behind the flag
 
@@ -129,7 +128,7 @@ later_fails s t p is e = bind_err (body_at (is_later (first_in s.rest)) t) _ p (
 pub opening_faults : (s : Spot) (d : ℕ) → OpeningFault s.rest d → opening_at s ≡ Err (s.at + d)
 unfolding opening_at
 opening_faults s d (magic_cut c e) = subst (IsOpeningAt s) (sym e) (bind_err (magic_at answer_magic s) _ (s.at + 0) (bytes_short s s 0 4 _ (stands_first s) c))
-opening_faults s d (magic_other w other e) = subst (IsOpeningAt s) (sym e) (at_start s (bind_err (magic_at answer_magic s) _ s.at (magic_other_is s w other)))
+opening_faults s d (magic_other w other e) = subst (IsOpeningAt s) (sym e) (at_start s (bind_err (magic_at answer_magic s) _ s.at (magic_other_is answer_magic s w other)))
 opening_faults s d (asn_cut magic c e) =
     let m = magic_long s c.reaches magic in
     subst (IsOpeningAt s) (sym e) (then_err (magic_at answer_magic s) _ _ _ m.is (number_short s m.next 4 4 _ m.stands c))

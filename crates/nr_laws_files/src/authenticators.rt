@@ -14,7 +14,9 @@ pub fn authenticator_is_refused_at_its_first_fault()
         → wanted_at head s ≡ Err (s.at + d) }
 {}
 
-/// What is refused as a file of authenticators is refused at the first malformed field.
+/// What is refused as a file of authenticators is refused at the first malformed field, and what has such a field is
+/// refused there.
 pub fn auths_file_is_refused_at_its_first_fault()
-    ensures { (bytes : List ℕ) (place : ℕ) → IsBytes bytes → auths_of bytes ≡ Err place → AuthsFault bytes place }
+    ensures found { (bytes : List ℕ) (place : ℕ) → IsBytes bytes → auths_of bytes ≡ Err place → AuthsFault bytes place }
+    ensures again { (bytes : List ℕ) (place : ℕ) → AuthsFault bytes place → auths_of bytes ≡ Err place }
 {}
