@@ -2,6 +2,8 @@
 #![tactic(auto)]
 
 #[cfg(test)]
+mod page;
+#[cfg(test)]
 mod texts;
 #[cfg(test)]
 mod typing;

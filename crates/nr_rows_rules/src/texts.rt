@@ -41,7 +41,8 @@ const PRINTED: [(&[u8], &[u8]); 35] = [
     ),
     (
         b"neighbour p as 1 at 0.0.0.0 root #AbAbAbAbAbAbAbAbAbAbAbAbAbAbAbAbAbAbAbAbAbAbAbAbAbAbAbAbAbAbAbAb number 3;",
-        b"neighbour p as 1 at 0.0.0.0 root #abababababababababababababababababababababababababababababababab number 3;\n",
+        b"neighbour p as 1 at 0.0.0.0 root #abababababababababababababababababababababababababababababababab number \
+          3;\n",
     ),
     (b"group g=a,b , c;", b"group g = a, b, c;\n"),
     (b"define d = 10.1.2.3/8;", b"define d = 10.0.0.0/8;\n"),
@@ -152,29 +153,9 @@ const PRINTED: [(&[u8], &[u8]); 35] = [
     ),
 ];
 
-// The examples of `docs/promises.md`: each with the one text that is printed for it.
-const EXAMPLES: [(&[u8], &[u8]); 4] = [
-    (
-        b"network 64500;\ncommit 60;\nneighbour transit as 64510 at 192.0.2.10;\nneighbour peer_a as 64511 at 192.0.2.11;\nneighbour peer_b as 64512 at 192.0.2.12;\ngroup peers = peer_a, peer_b;\n\n// Routes that carry 64500:666 stay inside.\npromise no_export grace 30 {\n  all n in peers { if r = sent(n) then not r has 64500:666 else true end }\n}\n",
-        b"network 64500;\ncommit 60;\nneighbour transit as 64510 at 192.0.2.10;\nneighbour peer_a as 64511 at 192.0.2.11;\nneighbour peer_b as 64512 at 192.0.2.12;\ngroup peers = peer_a, peer_b;\npromise no_export grace 30 { all n in peers { if r = sent(n) then not r has 64500:666 else true end } }\n",
-    ),
-    (
-        b"network 64500;\ncommit 60;\nneighbour customer as 64520 at 192.0.2.20;\nneighbour peer_a as 64511 at 192.0.2.11;\n\npromise prefer_customer grace 60 {\n  if s = sent(peer_a)\n  then received(customer) implies s crosses asn(customer)\n  else true end\n}\n",
-        b"network 64500;\ncommit 60;\nneighbour customer as 64520 at 192.0.2.20;\nneighbour peer_a as 64511 at 192.0.2.11;\npromise prefer_customer grace 60 { if s = sent(peer_a) then received(customer) implies s crosses asn(customer) else true end }\n",
-    ),
-    (
-        b"network 64500;\ncommit 60;\nneighbour peer_a as 64511 at 192.0.2.11;\nneighbour peer_b as 64512 at 192.0.2.12;\ngroup peers = peer_a, peer_b;\ndefine own = 198.51.100.0/24 le 26, 203.0.113.0/24;\n\npromise only_own grace 0 {\n  all n in peers { sent(n) implies prefix in own }\n}\n",
-        b"network 64500;\ncommit 60;\nneighbour peer_a as 64511 at 192.0.2.11;\nneighbour peer_b as 64512 at 192.0.2.12;\ngroup peers = peer_a, peer_b;\ndefine own = 198.51.100.0/24 le 26, 203.0.113.0/24;\npromise only_own grace 0 { all n in peers { sent(n) implies prefix in own } }\n",
-    ),
-    (
-        b"network 64500;\ncommit 60;\nneighbour transit_a as 64510 at 192.0.2.10;\nneighbour transit_b as 64513 at 192.0.2.13;\ngroup upstreams = transit_a, transit_b;\n\npromise reachable grace 300 at 203.0.113.0/24, 198.51.100.0/24 {\n  some n in upstreams { sent(n) }\n}\n",
-        b"network 64500;\ncommit 60;\nneighbour transit_a as 64510 at 192.0.2.10;\nneighbour transit_b as 64513 at 192.0.2.13;\ngroup upstreams = transit_a, transit_b;\npromise reachable grace 300 at 203.0.113.0/24, 198.51.100.0/24 { some n in upstreams { sent(n) } }\n",
-    ),
-];
-
 #[test]
 fn prints_one_text(rt: HostRuntime) {
-    for (text, want) in PRINTED.iter().chain(&EXAMPLES) {
+    for (text, want) in &PRINTED {
         assert!(rt; text.len() <= MOST);
         let got = printed(rt.alloc(), text);
         assert_eq!(rt; got.as_deref().ok(), Some(*want));
@@ -185,7 +166,11 @@ fn prints_one_text(rt: HostRuntime) {
 const REFUSED: [(&[u8], u64); 58] = [
     // The example of docs/promises.md.
     (
-        b"network 64500;\ncommit 60;\nneighbour p as 64501 at 192.0.2.1;\ngroup peers = p;\npromise t grace 0 { all n in peers { if r = sent(n) then r has 65000:1 end } }\n",
+        b"network 64500;\n\
+          commit 60;\n\
+          neighbour p as 64501 at 192.0.2.1;\n\
+          group peers = p;\n\
+          promise t grace 0 { all n in peers { if r = sent(n) then r has 65000:1 end } }\n",
         149,
     ),
     (b"network 01;", 8),

@@ -13,14 +13,23 @@ use std::test::Fail;
 const MOST: usize = 1_048_576;
 
 // What stands before the promise of a row.
-const BASE: &[u8] =
-    b"network 64500; commit 60;\nneighbour p as 64501 at 192.0.2.1;\nneighbour q as 64502 at 192.0.2.2;\ngroup peers = p, q;\ndefine own = 198.51.100.0/24 le 26;\n";
+const BASE: &[u8] = b"network 64500; commit 60;\n\
+      neighbour p as 64501 at 192.0.2.1;\n\
+      neighbour q as 64502 at 192.0.2.2;\n\
+      group peers = p, q;\n\
+      define own = 198.51.100.0/24 le 26;\n";
 
 // A whole text, and the place of its first fault, if it has one.
 const TEXTS: [(&[u8], Option<u64>); 29] = [
     // the example of docs/promises.md
     (
-        b"network 64500;\ncommit 60;\nneighbour transit as 64510 at 192.0.2.10;\ndefine own = 203.0.113.0/24 le 26;\n\n// The transit hears of our own prefixes alone.\npromise only_own grace 10 { sent(transit_a) implies prefix in own }\n",
+        b"network 64500;\n\
+          commit 60;\n\
+          neighbour transit as 64510 at 192.0.2.10;\n\
+          define own = 203.0.113.0/24 le 26;\n\
+          \n\
+          // The transit hears of our own prefixes alone.\n\
+          promise only_own grace 10 { sent(transit_a) implies prefix in own }\n",
         Some(185),
     ),
     // a second network
@@ -48,17 +57,26 @@ const TEXTS: [(&[u8], Option<u64>); 29] = [
     ),
     // two neighbours with one AS and number of key
     (
-        b"network 64500; commit 60;\nneighbour p as 64501 at 192.0.2.1 root #0000000000000000000000000000000000000000000000000000000000000000 number 7;\nneighbour q as 64501 at 192.0.2.2 root #0000000000000000000000000000000000000000000000000000000000000000 number 7;\n",
+        b"network 64500; commit 60;\n\
+          neighbour p as 64501 at 192.0.2.1 root #0000000000000000000000000000000000000000000000000000000000000000 \
+          number 7;\n\
+          neighbour q as 64501 at 192.0.2.2 root #0000000000000000000000000000000000000000000000000000000000000000 \
+          number 7;\n",
         Some(151),
     ),
     // number of a key above 255
     (
-        b"network 64500; commit 60;\nneighbour p as 64501 at 192.0.2.1 root #0000000000000000000000000000000000000000000000000000000000000000 number 256;\n",
+        b"network 64500; commit 60;\n\
+          neighbour p as 64501 at 192.0.2.1 root #0000000000000000000000000000000000000000000000000000000000000000 \
+          number 256;\n",
         Some(138),
     ),
     // a member that is not declared before
     (
-        b"network 64500; commit 60;\nneighbour p as 64501 at 192.0.2.1;\ngroup g = p, q;\nneighbour q as 64502 at 192.0.2.2;\n",
+        b"network 64500; commit 60;\n\
+          neighbour p as 64501 at 192.0.2.1;\n\
+          group g = p, q;\n\
+          neighbour q as 64502 at 192.0.2.2;\n",
         Some(74),
     ),
     // a member that is a group
@@ -68,7 +86,10 @@ const TEXTS: [(&[u8], Option<u64>); 29] = [
     ),
     // a member twice
     (
-        b"network 64500; commit 60;\nneighbour p as 64501 at 192.0.2.1;\nneighbour q as 64502 at 192.0.2.2;\ngroup g = p, q, p;\n",
+        b"network 64500; commit 60;\n\
+          neighbour p as 64501 at 192.0.2.1;\n\
+          neighbour q as 64502 at 192.0.2.2;\n\
+          group g = p, q, p;\n",
         Some(112),
     ),
     // le below the prefix's length
@@ -88,7 +109,10 @@ const TEXTS: [(&[u8], Option<u64>); 29] = [
     ),
     // a name used before it is declared
     (
-        b"network 64500; commit 60;\nneighbour p as 64501 at 192.0.2.1;\npromise t grace 0 { prefix in own }\ndefine own = 198.51.100.0/24 le 26;\n",
+        b"network 64500; commit 60;\n\
+          neighbour p as 64501 at 192.0.2.1;\n\
+          promise t grace 0 { prefix in own }\n\
+          define own = 198.51.100.0/24 le 26;\n",
         Some(91),
     ),
     // two faults: a name used before its declaration, after it a second network
@@ -98,7 +122,10 @@ const TEXTS: [(&[u8], Option<u64>); 29] = [
     ),
     // two faults: the name of a second like neighbour, and its number above 255
     (
-        b"network 64500; commit 60;\nneighbour p as 64501 at 192.0.2.1;\nneighbour q as 64501 at 192.0.2.1 root #0000000000000000000000000000000000000000000000000000000000000000 number 256;\n",
+        b"network 64500; commit 60;\n\
+          neighbour p as 64501 at 192.0.2.1;\n\
+          neighbour q as 64501 at 192.0.2.1 root #0000000000000000000000000000000000000000000000000000000000000000 \
+          number 256;\n",
         Some(71),
     ),
     // the least text
@@ -109,17 +136,26 @@ const TEXTS: [(&[u8], Option<u64>); 29] = [
     (b"network 1; commit 31536000;", None),
     // the greatest grace and number
     (
-        b"network 1; commit 0; neighbour p as 1 at 0.0.0.1 root #0000000000000000000000000000000000000000000000000000000000000000 number 255; promise t grace 31536000 { sent(p) }",
+        b"network 1; commit 0; neighbour p as 1 at 0.0.0.1 root \
+          #0000000000000000000000000000000000000000000000000000000000000000 number 255; promise t grace 31536000 { \
+          sent(p) }",
         None,
     ),
     // one AS at two addresses, two AS at one address
     (
-        b"network 64500; commit 60;\nneighbour p as 64501 at 192.0.2.1;\nneighbour q as 64501 at 192.0.2.2;\nneighbour s as 64502 at 192.0.2.1;\n",
+        b"network 64500; commit 60;\n\
+          neighbour p as 64501 at 192.0.2.1;\n\
+          neighbour q as 64501 at 192.0.2.2;\n\
+          neighbour s as 64502 at 192.0.2.1;\n",
         None,
     ),
     // one number of two AS
     (
-        b"network 64500; commit 60;\nneighbour p as 64501 at 192.0.2.1 root #0000000000000000000000000000000000000000000000000000000000000000 number 7;\nneighbour q as 64502 at 192.0.2.2 root #0000000000000000000000000000000000000000000000000000000000000000 number 7;\n",
+        b"network 64500; commit 60;\n\
+          neighbour p as 64501 at 192.0.2.1 root #0000000000000000000000000000000000000000000000000000000000000000 \
+          number 7;\n\
+          neighbour q as 64502 at 192.0.2.2 root #0000000000000000000000000000000000000000000000000000000000000000 \
+          number 7;\n",
         None,
     ),
     // le at its ends
@@ -129,7 +165,11 @@ const TEXTS: [(&[u8], Option<u64>); 29] = [
     ),
     // a variable named like a later declaration
     (
-        b"network 64500; commit 60;\nneighbour p as 64501 at 192.0.2.1;\ngroup g = p;\npromise t grace 0 { all n in g { sent(n) } }\nneighbour n as 9 at 9.9.9.9;\n",
+        b"network 64500; commit 60;\n\
+          neighbour p as 64501 at 192.0.2.1;\n\
+          group g = p;\n\
+          promise t grace 0 { all n in g { sent(n) } }\n\
+          neighbour n as 9 at 9.9.9.9;\n",
         None,
     ),
     // a neighbour twice in two groups
@@ -234,7 +274,8 @@ const PROMISES: [(&[u8], Option<u64>); 24] = [
     ),
     // a variable's name again, where the first is left
     (
-        b"promise t grace 0 { all n in peers { true } and some n in peers { sent(n) } and if n = sent(p) then n has 1:1 else true end }\n",
+        b"promise t grace 0 { all n in peers { true } and some n in peers { sent(n) } and if n = sent(p) then n has \
+          1:1 else true end }\n",
         None,
     ),
     // the same variable name in the parts after then and else
