@@ -1,0 +1,4 @@
+pub mod CrashLaws
+pub mod ImageLaws
+pub mod FirmLaws
+pub mod SoundLaws

@@ -1,0 +1,244 @@
+-- Crashes of a birth.
+use Rattle.std.proofs.Common.{◌≡◌, ◌≢◌, ℕ, ◌+◌, ◌<◌, ◌≤◌, ◌^◌, Bool, true, false, eqb, List, [], ◌∷◌, ◌++◌, length, take, drop, get_or, Option, None, Some, Result, Ok, Err, refl, sym, ap, subst, ◌∙◌, inl, inr, ◌⊎◌, ⊎_elim, append_assoc, arith}
+use Rattle.std.specs.Prelude.{option_map, unwrap_or, nat_lt}
+use Rattle.std.proofs.lemmas.Bool.{ltb-true, ltb-false}
+use Rattle.std.proofs.lemmas.Bool.Decides.{eqb_tells}
+use Rattle.std.proofs.lemmas.List.{length-append, take_at, drop_more}
+use Rattle.std.proofs.Math.Seq.{drop-append-add}
+use Rattle.nr_spec_plans.specs.Disk.{Disk, Told, Moment, bytes_of, size_of, written}
+use Rattle.nr_spec_plans.specs.Plans.{Done, Acts, Halt, Runs, followed_by, Ask, ◌>>=◌}
+use Rattle.nr_spec_plans.specs.Laws.{Kept}
+use Rattle.nr_spec_plans.proofs.PlanLaws.{taken_apart, step_keeps}
+use Rattle.nr_spec_crash.specs.Images.{IsImage}
+use Rattle.nr_spec_crash.specs.Crashes.{MayLeave, Sometime, Crashes, Rests, IsWithin}
+use Rattle.nr_spec_crash.specs.Firm.{firm}
+use Rattle.nr_laws_crash.proofs.CrashLaws.{crash_sequence, crash_after, done_crash, sometime_kept, was_told, field_kept}
+use Rattle.nr_laws_crash.proofs.ImageLaws.{place_of_take}
+use Rattle.nr_laws_crash.proofs.FirmLaws.{firm_rests, rests_image, rests_kept, within_kept, within_left, firm_keeps_within}
+use Rattle.nr_spec_log.specs.Authenticator.{digest_size}
+use Rattle.nr_spec_store.specs.LogFile.{LogFile, log_of, born}
+use Rattle.nr_spec_store.specs.StorePlans.{Refusal, Work, within_limit, gate_plan, close_plan, birth_plan}
+use Rattle.nr_spec_store.specs.StoreCrashes.{AwaitsBirth, IsUnbornOrBorn, Holds}
+use Rattle.nr_laws_store.proofs.LogLaws.{IsUnborn, none_unborn, unborn_none}
+use Rattle.nr_laws_store.proofs.Grown.{born_reads, born_in, opened_after}
+use Rattle.nr_laws_store.proofs.GateLaws.{AreImages, gate_crash, gate_ok, limit_crash, limit_ok, done_value}
+
+-- A file begins with an open birth gate and these bytes after it.
+abbrev pub IsBorn : List ℕ → List ℕ → Type 0
+IsBorn body file = (rest : List ℕ) × (file ≡ 1 ∷ (body ++ rest))
+
+-- ---- the writes of a birth
+
+starts : (x : ℕ) (rest body : List ℕ) → written 1 body (x ∷ rest) ≡ x ∷ (body ++ drop (length body) rest)
+starts x rest body =
+    append_assoc (take 1 (x ∷ rest)) body (drop (1 + length body) (x ∷ rest))
+    ∙ ap (λ (l : List ℕ). l ++ (body ++ drop (1 + length body) (x ∷ rest))) (take_at (x ∷ []) rest 1 refl)
+    ∙ ap (λ (l : List ℕ). (x ∷ []) ++ (body ++ l)) (drop-append-add (x ∷ []) rest (length body))
+
+-- by the gate that is left
+by_gate : (body rest image : List ℕ) (gate : ℕ) → get_or image 0 0 ≡ gate → image ≡ gate ∷ (body ++ rest) → IsUnborn image ⊎ IsBorn body image
+by_gate body rest image gate is whole =
+    ⊎_elim (λ (e : (eqb gate 1 ≡ true) × (gate ≡ 1)). inr (rest, whole ∙ ap (λ (g : ℕ). g ∷ (body ++ rest)) e.1)) (λ (e : (eqb gate 1 ≡ false) × (gate ≢ 1)). inl (inr (λ one. e.1 (sym is ∙ one)))) (eqb_tells gate 1)
+
+born_images : (body file image : List ℕ) → 1 ≤ length file → get_or file 0 0 ≢ 1 → AreImages 1 body file image → IsUnborn image ⊎ IsBorn body image
+born_images body file image some closed (inl torn) = inl (inr (λ one. closed (sym (place_of_take 1 image file 0 torn.before (omega arith)) ∙ one)))
+born_images body [] image some closed (inr torn) = absurd (omega (arith, some))
+born_images body (x ∷ rest) image some closed (inr torn) =
+    let beyond : drop 1 image ≡ body ++ drop (length body) rest = torn.rest ∙ ap (drop 1) (starts x rest body) in
+    let long : 1 ≤ length image = omega (arith, torn.no_shorter, ap length (starts x rest body), length-append body (drop (length body) rest)) in
+    by_gate body (drop (length body) rest) image (get_or image 0 0) refl (drop_more image 0 0 (omega (arith, long)) ∙ ap (λ (l : List ℕ). get_or image 0 0 ∷ l) beyond)
+
+opens_crash : (name body file image : List ℕ) (old : Disk) → Rests old name file → 1 ≤ length file → get_or file 0 0 ≢ 1 → Crashes (gate_plan name 1 body) old name image → IsUnborn image ⊎ IsBorn body image
+opens_crash name body file image old rests some closed crash = born_images body file image some closed (gate_crash name 1 body file image old rests (omega arith) some crash)
+
+-- ---- the birth
+
+abbrev pub IsShort : List ℕ → Disk → Type 0
+IsShort name d = IsWithin name 43 d
+
+-- what a crash leaves where a birth is awaited has no log
+awaits_left : (name image : List ℕ) (d : Disk) → AwaitsBirth d name → MayLeave d name image → IsUnborn image
+awaits_left name image d (inl (file, rests, unborn)) left = subst IsUnborn (sym (rests_image d name file image rests left)) (none_unborn file unborn)
+awaits_left name image d (inr within) left = inl (omega (arith, within_left d name image 43 within left))
+
+awaits_kept : (name : List ℕ) (old new : Disk) → Kept name old.told new.told → AwaitsBirth old name → AwaitsBirth new name
+awaits_kept name old new kept (inl (file, rests, unborn)) = inl (file, rests_kept old new name file kept rests, unborn)
+awaits_kept name old new kept (inr within) = inr (within_kept name 43 old new kept within)
+
+awaits_told : (name : List ℕ) (d : Disk) → AwaitsBirth d name → (t : Told) × (d.told ≡ Some t)
+awaits_told name d (inl (file, rests, unborn)) = (rests.now, rests.told)
+awaits_told name d (inr within) = (within.now, within.told)
+
+same_told : (d : Disk) (t u : Told) → d.told ≡ Some t → d.told ≡ Some u → u ≡ t
+same_told d t u is at = let e : Some u ≡ Some t = sym at ∙ is in cc
+
+-- a short file
+awaits_short : (name : List ℕ) (d : Disk) (t : Told) → d.told ≡ Some t → size_of t name < 44 → AwaitsBirth d name → IsWithin name 43 d
+awaits_short name d t told less (inr within) = within
+awaits_short name d t told less (inl (file, rests, unborn)) =
+    let same = same_told d rests.now t rests.told told in
+    let size : size_of rests.now name < 44 = subst (λ (t : Told). size_of t name < 44) same less in
+    let len : length file < 44 = subst (λ (f : List ℕ). length f < 44) rests.bytes size in
+    record { now = rests.now; told = rests.told; size = omega (arith, size); greatest = rw (rests.loose) (omega (arith, len)) }
+
+-- a file with room for a birth
+pub record HasRoom (d : Disk) (name : List ℕ) : Type 0 where
+  pub file : List ℕ
+  pub rests : Rests d name file
+  pub some : 1 ≤ length file
+  pub closed : get_or file 0 0 ≢ 1
+
+awaits_long : (name : List ℕ) (d : Disk) (t : Told) → d.told ≡ Some t → 44 ≤ size_of t name → AwaitsBirth d name → HasRoom d name
+awaits_long name d t told more (inr within) =
+    let same = same_told d within.now t within.told told in
+    let size : 44 ≤ size_of within.now name = subst (λ (t : Told). 44 ≤ size_of t name) same more in
+    absurd (omega (arith, size, within.size))
+awaits_long name d t told more (inl (file, rests, unborn)) =
+    let same = same_told d rests.now t rests.told told in
+    let size : 44 ≤ size_of rests.now name = subst (λ (t : Told). 44 ≤ size_of t name) same more in
+    let len : 44 ≤ length file = subst (λ (f : List ℕ). 44 ≤ length f) rests.bytes size in
+    record { file = file; rests = rests; some = omega (arith, len); closed = ⊎_elim (λ (short : length file < 44). absurd (omega (arith, short, len))) (λ (ne : get_or file 0 0 ≢ 1). ne) (none_unborn file unborn) }
+
+-- after the closed gate
+closed_room : (name : List ℕ) (old new : Disk) (t : Told) → old.told ≡ Some t → Runs {E = Refusal} (firm name 0 (0 ∷ [])) old new (Ok tt) → HasRoom new name
+closed_room name old new t told runs =
+    let rests = firm_rests Refusal name 0 (0 ∷ []) old new t told runs in
+    record { file = written 0 (0 ∷ []) (bytes_of (t.holds name)); rests = rests; some = omega arith; closed = λ is. cc }
+
+sized : (h : Option (List ℕ)) → unwrap_or (option_map length h) 0 ≡ length (bytes_of h)
+sized None = refl
+sized (Some bytes) = refl
+
+-- ---- a crash
+
+-- a closed birth gate, where that is wanted, and then the birth
+abbrev closing : (name : List ℕ) (size : ℕ) → LogFile → Work LogFile
+closing name size log = close_plan name size >>= (λ closed. gate_plan name 1 (drop 1 log.front) >>= (λ opened. Done log))
+
+-- the birth, once the size is known
+abbrev sized_birth : (name : List ℕ) (size : ℕ) → LogFile → Work LogFile
+sized_birth name size log = within_limit size >>= (λ fits. closing name size log)
+
+close_then : (name image : List ℕ) (size : ℕ) (log : LogFile) (old : Disk) (t : Told) (b : Bool) → nat_lt size 44 ≡ b → old.told ≡ Some t → size ≡ size_of t name → AwaitsBirth old name
+    → Sometime (closing name size log) old (λ m. IsImage m name image) → IsUnborn image ⊎ IsBorn (drop 1 log.front) image
+unfolding close_plan followed_by
+close_then name image size log old t true is told at awaits crash =
+    let less : size_of t name < 44 = omega (arith, ltb-true _ _ is, at) in
+    let within = awaits_short name old t told less awaits in
+    let c = rw is at crash in
+    let parts = crash_sequence (firm {E = Refusal} name 0 (0 ∷ [])) (λ closed. gate_plan name 1 (drop 1 log.front) >>= (λ opened. Done log)) old (λ m. IsImage m name image) c in
+    ⊎_elim
+    (λ first. let d = sometime_kept (IsWithin name 43) (λ m. IsImage m name image) (firm {E = Refusal} name 0 (0 ∷ [])) old (firm_keeps_within Refusal name 0 (0 ∷ []) 43 (omega arith)) within first in
+    inl (inl (omega (arith, within_left d.0 name image 43 d.1 d.2))))
+    (λ second.
+    let room = closed_room name old second.1 t told second.2 in
+    opens_crash name (drop 1 log.front) room.file image second.1 room.rests room.some room.closed (done_crash (gate_plan name 1 (drop 1 log.front)) log second.1 (λ m. IsImage m name image) second.3))
+    parts
+close_then name image size log old t false is told at awaits crash =
+    let more : 44 ≤ size_of t name = omega (arith, ltb-false _ _ is, at) in
+    let room = awaits_long name old t told more awaits in
+    let c = rw is at crash in
+    opens_crash name (drop 1 log.front) room.file image old room.rests room.some room.closed (done_crash (gate_plan name 1 (drop 1 log.front)) log old (λ m. IsImage m name image) c)
+
+sized_crash : (name image : List ℕ) (size : ℕ) (log : LogFile) (old : Disk) (t : Told) → old.told ≡ Some t → size ≡ size_of t name → AwaitsBirth old name → Sometime (sized_birth name size log) old (λ m. IsImage m name image)
+    → IsUnborn image ⊎ IsBorn (drop 1 log.front) image
+sized_crash name image size log old t told at awaits crash =
+    let Q : Moment → Type 0 = λ m. IsImage m name image in
+    ⊎_elim (λ first. inl (awaits_left name image old awaits (limit_crash size old Q first)))
+    (λ second.
+    let fits = limit_ok size old second.1 second.0 second.2 in
+    let rest = subst (λ (d : Disk). Sometime (closing name size log) d Q) fits.0 second.3 in
+    close_then name image size log old t (nat_lt size 44) refl told at awaits rest)
+    (crash_sequence (within_limit size) (λ fits. closing name size log) old Q crash)
+
+-- what is told once the size was asked for
+pub record Asked (name : List ℕ) (size : Option ℕ) (mid : Disk) : Type 0 where
+  pub now : Told
+  pub told : mid.told ≡ Some now
+  pub size_is : unwrap_or size 0 ≡ size_of now name
+
+asked_size : (name : List ℕ) (size : Option ℕ) (old mid : Disk) (t : Told) → old.told ≡ Some t → Acts (Ask name) old mid (Ok size) → Asked name size mid
+asked_size name size old mid t told acts =
+    let kept = step_keeps name (Ask name) old mid (Ok size) tt acts in
+    let u = was_told (λ (t : Told). t.holds name) mid.told old.told t told (sym kept.holds) in
+    let holds = field_kept (λ (t : Told). t.holds name) old.told mid.told t u.0 told u.1 kept.holds in
+    record { now = u.0; told = u.1; size_is = ap (λ (s : Option ℕ). unwrap_or s 0) (acts.size t told) ∙ sized (t.holds name) ∙ ap (λ (h : Option (List ℕ)). length (bytes_of h)) (sym holds) }
+
+birth_crash : (name : List ℕ) (asn : ℕ) (root image : List ℕ) (old : Disk) → AwaitsBirth old name → Crashes (birth_plan name asn root) old name image → IsUnborn image ⊎ IsBorn (drop 1 (born asn root).front) image
+unfolding birth_plan Sometime followed_by
+birth_crash name asn root image old awaits (inl left) = inl (awaits_left name image old awaits left)
+birth_crash name asn root image old awaits (inr (mid, Err fault, acts, left)) = inl (awaits_left name image mid (awaits_kept name old mid (step_keeps name (Ask name) old mid (Err fault) tt acts) awaits) left)
+birth_crash name asn root image old awaits (inr (mid, Ok size, acts, crash)) =
+    let t = awaits_told name old awaits in
+    let a = asked_size name size old mid t.0 t.1 acts in
+    sized_crash name image (unwrap_or size 0) (born asn root) mid a.now a.told a.size_is (awaits_kept name old mid (step_keeps name (Ask name) old mid (Ok size) tt acts) awaits) crash
+
+-- A crash at any moment of a birth leaves no log, or one without entries.
+pub birth_leaves : (name : List ℕ) (asn : ℕ) (root image : List ℕ) (old : Disk) → asn < 2 ^ 32 → length root ≡ digest_size → AwaitsBirth old name → Crashes (birth_plan name asn root) old name image → IsUnbornOrBorn (born asn root) image
+birth_leaves name asn root image old small size awaits crash =
+    ⊎_elim (λ unborn. inl (unborn_none image unborn)) (λ given. inr (ap log_of given.1 ∙ born_reads asn root given.0 small size)) (birth_crash name asn root image old awaits crash)
+
+-- However a birth ended, a crash after it leaves the same.
+pub birth_stop_leaves : (name : List ℕ) (asn : ℕ) (root image : List ℕ) (old new : Disk) (result : Result LogFile (Halt Refusal)) → asn < 2 ^ 32 → length root ≡ digest_size → AwaitsBirth old name → Runs (birth_plan name asn root) old new result
+    → MayLeave new name image → IsUnbornOrBorn (born asn root) image
+birth_stop_leaves name asn root image old new result small size awaits runs left =
+    birth_leaves name asn root image old small size awaits (crash_after (birth_plan name asn root) old new result (λ m. IsImage m name image) runs left)
+
+-- ---- after Ok
+
+-- a file that isn't empty
+pub record IsSome (d : Disk) (name : List ℕ) : Type 0 where
+  pub now : Told
+  pub told : d.told ≡ Some now
+  pub some : 1 ≤ size_of now name
+
+some_run : (name : List ℕ) (size : ℕ) (old new : Disk) (x : Unit {0}) (t : Told) (b : Bool) → nat_lt size 44 ≡ b → old.told ≡ Some t → size ≡ size_of t name → Runs (close_plan name size) old new (Ok x) → IsSome new name
+unfolding close_plan Runs
+some_run name size old new tt t true is told at runs =
+    let r = rw is at runs in
+    let room = closed_room name old new t told r in
+    record { now = room.rests.now; told = room.rests.told; some = subst (λ (f : List ℕ). 1 ≤ length f) (sym room.rests.bytes) room.some }
+some_run name size old new x t false is told at runs =
+    let r = rw is at runs in
+    record { now = t; told = ap (λ (d : Disk). d.told) r.0 ∙ told; some = omega (arith, ltb-false _ _ is, at) }
+
+born_holds : (name : List ℕ) (asn : ℕ) (root : List ℕ) (value : LogFile) (old new : Disk) (x : Unit {0}) (mid : Disk) → asn < 2 ^ 32 → length root ≡ digest_size → IsSome old name → Runs (gate_plan name 1 (drop 1 (born asn root).front)) old mid (Ok x)
+    → (new ≡ mid) × (value ≡ born asn root) → (value ≡ born asn root) × Holds new name (born asn root)
+born_holds name asn root value old new tt mid small size some runs done =
+    let body = drop 1 (born asn root).front in
+    let before = bytes_of (some.now.holds name) in
+    let file = opened_after 1 body before in (
+      done.1,
+      record {
+        file = file;
+        rests = subst (λ (d : Disk). Rests d name file) (sym done.0) (gate_ok name 1 body old mid some.now some.told runs);
+        is_log = record { batches = []; gate = 0; closed = refl; fit = tt; asn = small; root = size; entries = refl; front = refl };
+        holds = born_in asn root before (born asn root).front small size some.some refl;
+      },
+    )
+
+closing_ok : (name : List ℕ) (asn : ℕ) (root : List ℕ) (size : ℕ) (value : LogFile) (old new : Disk) (t : Told) → asn < 2 ^ 32 → length root ≡ digest_size → old.told ≡ Some t → size ≡ size_of t name
+    → Runs (closing name size (born asn root)) old new (Ok value) → (value ≡ born asn root) × Holds new name (born asn root)
+closing_ok name asn root size value old new t small len told at runs =
+    let log = born asn root in
+    ⊎_elim
+    (λ w.
+    let some = some_run name size old w.0 w.1 t (nat_lt size 44) refl told at w.2 in
+    ⊎_elim (λ g. born_holds name asn root value w.0 new g.1 g.0 small len some g.2 (done_value log g.0 new value g.3)) (λ g. absurd (let h = g.2 in cc)) (taken_apart (gate_plan name 1 (drop 1 log.front)) (λ opened. Done log) w.0 new (Ok value) w.3))
+    (λ w. absurd (let h = w.2 in cc))
+    (taken_apart (close_plan name size) (λ closed. gate_plan name 1 (drop 1 log.front) >>= (λ opened. Done log)) old new (Ok value) runs)
+
+sized_ok : (name : List ℕ) (asn : ℕ) (root : List ℕ) (size : ℕ) (value : LogFile) (old new : Disk) (t : Told) → asn < 2 ^ 32 → length root ≡ digest_size → old.told ≡ Some t → size ≡ size_of t name
+    → Runs (sized_birth name size (born asn root)) old new (Ok value) → (value ≡ born asn root) × Holds new name (born asn root)
+sized_ok name asn root size value old new t small len told at runs =
+    let log = born asn root in
+    ⊎_elim (λ w. closing_ok name asn root size value old new t small len told at (subst (λ (d : Disk). Runs (closing name size log) d new (Ok value)) (limit_ok size old w.0 w.1 w.2).0 w.3)) (λ w. absurd (let h = w.2 in cc))
+    (taken_apart (within_limit size) (λ fits. closing name size log) old new (Ok value) runs)
+
+-- After Ok the file rests with a log without entries.
+pub birth_keeps : (name : List ℕ) (asn : ℕ) (root : List ℕ) (value : LogFile) (old new : Disk) (t : Told) → asn < 2 ^ 32 → length root ≡ digest_size → old.told ≡ Some t → Runs (birth_plan name asn root) old new (Ok value)
+    → (value ≡ born asn root) × Holds new name (born asn root)
+unfolding birth_plan Runs followed_by
+birth_keeps name asn root value old new t small len told (inl (same, is)) = absurd cc
+birth_keeps name asn root value old new t small len told (inr (mid, Err fault, acts, (same, is))) = absurd cc
+birth_keeps name asn root value old new t small len told (inr (mid, Ok size, acts, goes)) = let a = asked_size name size old mid t told acts in sized_ok name asn root (unwrap_or size 0) value mid new a.now small len a.told a.size_is goes

@@ -1,0 +1,3 @@
+pub mod LogFile
+pub mod StorePlans
+pub mod StoreCrashes
