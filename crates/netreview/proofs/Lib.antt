@@ -1,6 +1,1 @@
-pub mod PlanSteps
 pub mod WholeRuns
-pub mod LinkLemmas
-pub mod WordLemmas
-pub mod AuditWordLemmas
-pub mod ReportLemmas

@@ -1,34 +1,17 @@
 //! `netreview` audits accountable logs of the BGP messages of a network.
 #![tactic(auto)]
 
-mod audit;
 #[cfg(test)]
 mod audit_tests;
-mod check;
 #[cfg(test)]
 mod check_tests;
-mod commands;
-mod conflicts;
-mod ending;
-mod input;
-mod key_request;
-mod keygen;
 #[cfg(test)]
 mod keygen_tests;
-mod links;
-mod numbers;
 #[cfg(test)]
 mod outside_tests;
-mod promise_file;
-mod reading;
-mod refusal;
-mod request;
-mod roots;
 mod run;
-mod signatures;
 #[cfg(test)]
 mod tests;
-mod writing;
 
 use nr_system::{Access, NoWords, Output, SystemFiles, words};
 use run::run;

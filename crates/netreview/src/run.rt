@@ -3,16 +3,14 @@
 ghost use Rattle.std.specs.Prelude.{map};
 ghost use Rattle.std.specs.String.{string_bytes};
 ghost use Rattle.nr_spec_program.specs.Command.{plan_for, plan_of};
-ghost use Rattle.netreview.specs.Requests.{request_of};
-ghost use Rattle.netreview.specs.Endings.{fixed_of};
+ghost use Rattle.nr_requests.specs.Views.{request_of};
+ghost use Rattle.nr_commands.specs.Endings.{fixed_of};
 ghost use Rattle.nr_spec_program.specs.Running.{Delivers, RunsTo};
 
-use crate::commands::perform;
-use crate::ending::{Fixed, out_of_memory, read_fault, refused, usage, write_fault};
-use crate::refusal::Stop;
-use crate::request::{Request, request_from};
 use nr_bytes::Memory;
+use nr_commands::{Fixed, Stop, out_of_memory, perform, read_fault, refused, usage, write_fault};
 use nr_ports::{Files, Sink, WriteFault, write_all};
+use nr_requests::{Request, request_from};
 use std::alloc::Global;
 
 // Offers a text to the sink, and answers the status: 5 where the sink failed, 6 where it found no memory.

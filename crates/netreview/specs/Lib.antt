@@ -1,5 +1,0 @@
-pub mod Views
-pub mod Requests
-pub mod Links
-pub mod Endings
-pub mod Nested

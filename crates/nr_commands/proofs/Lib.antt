@@ -1,0 +1,3 @@
+pub mod PlanSteps
+pub mod LinkLemmas
+pub mod ReportLemmas

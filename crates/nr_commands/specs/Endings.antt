@@ -1,0 +1,26 @@
+-- What the endings of the code stand for in the definitions.
+use Rattle.std.specs.Prelude.{◌≡◌, ℕ, List}
+use Rattle.std.specs.List.{flat_map}
+use Rattle.nr_spec_log.specs.Authenticator.{Authenticator}
+use Rattle.nr_spec_history.specs.Report.{conflict_line}
+use Rattle.nr_spec_history.specs.KeyFiles.{Key}
+use Rattle.nr_lamport.specs.declared.seed.Seed.{Seed}
+use Rattle.nr_requests.specs.declared.key_request.KeygenRequest.{KeygenRequest}
+use Rattle.nr_spec_program.specs.Command as command
+use Rattle.nr_commands.specs.declared.ending.Ending as declared_ending
+use Rattle.nr_commands.specs.declared.ending.Fixed as declared_fixed
+
+abbrev pub ending_of : declared_ending.Ending → command.Ending
+ending_of e = record { status = e.status; text = e.text.items }
+
+abbrev pub fixed_of : declared_fixed.Fixed → command.Ending
+fixed_of e = record { status = e.status; text = e.text.now }
+
+-- the key of a request with a seed
+abbrev pub key_of : KeygenRequest → Seed → Key
+key_of q seed = record { asn = q.asn; height = q.height; seed = seed.0 }
+
+-- the ending of the report whose conflicts have these lines
+abbrev pub Reports : List ℕ → command.Ending → Type 0
+Reports lines e =
+    (conflicts : List Authenticator) → lines ≡ flat_map conflict_line conflicts → e ≡ command.report_ending conflicts

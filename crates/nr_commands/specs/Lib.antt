@@ -1,0 +1,4 @@
+pub mod Views
+pub mod Links
+pub mod Endings
+pub mod Nested

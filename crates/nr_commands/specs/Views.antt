@@ -1,0 +1,99 @@
+-- What this crate's types stand for in the definitions.
+use Rattle.std.specs.Prelude.{◌≡◌, ℕ, List, Result, Ok, Err}
+use Rattle.nr_spec_history.specs.Report as report
+use Rattle.nr_lamport.specs.declared.seed.Seed.{Seed}
+use Rattle.nr_spec_plans.specs.Disk as disk
+use Rattle.nr_spec_plans.specs.Plans as plans
+use Rattle.nr_ports.specs.declared.fault.ReadFault.{ReadFault}
+use Rattle.nr_ports.specs.declared.fault.ReadFault.TheVariants as read
+use Rattle.nr_ports.specs.declared.fault.WriteFault.{WriteFault}
+use Rattle.nr_ports.specs.declared.fault.WriteFault.TheVariants as write
+use Rattle.nr_rule_syntax.specs.declared.fault.ParseError.{ParseError}
+use Rattle.nr_rule_syntax.specs.declared.fault.ParseError.TheVariants as parse
+use Rattle.nr_rule_types.specs.declared.fault.TypeError.{TypeError}
+use Rattle.nr_rule_types.specs.declared.fault.TypeError.TheVariants as typing
+use Rattle.nr_spec_program.specs.Command as command
+use Rattle.nr_spec_program.specs.Promises as promises
+use Rattle.nr_commands.specs.declared.promise_file.PromiseFile as declared_promise
+use Rattle.nr_commands.specs.declared.input.Input.{Input}
+use Rattle.nr_commands.specs.declared.input.Input.TheVariants as input
+use Rattle.nr_commands.specs.declared.refusal.Fact.{Fact}
+use Rattle.nr_commands.specs.declared.refusal.Fact.TheVariants as fact
+use Rattle.nr_commands.specs.declared.refusal.Refusal.{Refusal}
+use Rattle.nr_commands.specs.declared.refusal.Refusal.TheVariants as refusal
+use Rattle.nr_commands.specs.declared.refusal.Stop.{Stop}
+use Rattle.nr_commands.specs.declared.refusal.Stop.TheVariants as stop
+
+abbrev pub input_of : Input → command.Input
+input_of input.Promise = command.PromiseInput
+input_of input.Answer = command.AnswerInput
+input_of input.Auths = command.AuthsInput
+input_of input.Seed = command.SeedInput
+
+abbrev pub fact_of : Fact → report.Fact
+fact_of fact.Form = report.Form
+fact_of (fact.Network found wanted) = report.Network found wanted
+fact_of fact.Unsigned = report.Unsigned
+fact_of (fact.Head head chain) = report.Head head.0 chain.0
+fact_of (fact.Short head to) = report.Short head to
+
+abbrev pub refusal_of : Refusal → command.Refusal
+refusal_of (refusal.NoFile i) = command.NoFile (input_of i)
+refusal_of (refusal.Limit i found) = command.Limit (input_of i) found
+refusal_of (refusal.Malformed i place) = command.Malformed (input_of i) place.0
+refusal_of (refusal.Refused f) = command.Refused (fact_of f)
+
+abbrev pub seed_bytes : Seed → List ℕ
+seed_bytes seed = seed.0
+
+-- why a file that isn't read in whole ends a command
+abbrev pub stop_of : ReadFault → Stop
+stop_of read.Failed = stop.ReadFault
+stop_of read.Memory = stop.Memory
+
+-- why a promise file that the grammar refuses ends a command
+abbrev pub unread_of : ParseError → Stop
+unread_of (parse.At place) = stop.Refused (refusal.Malformed input.Promise place)
+unread_of parse.Memory = stop.Memory
+
+-- why a promise file that the typing refuses ends a command
+abbrev pub untyped_of : TypeError → Stop
+untyped_of (typing.At place) = stop.Refused (refusal.Malformed input.Promise place)
+untyped_of typing.Memory = stop.Memory
+
+abbrev pub promise_file_of : declared_promise.PromiseFile → promises.PromiseFile
+promise_file_of p = record { file = p.file; says = p.says }
+
+-- why a file that isn't written in whole ends a command
+abbrev pub halt_of : WriteFault → Stop
+halt_of write.Failed = stop.WriteFault
+halt_of write.Memory = stop.Memory
+
+-- why a plan gave no value
+abbrev pub why : Stop → plans.Halt command.Refusal
+why (stop.Refused r) = plans.Refused (refusal_of r)
+why stop.ReadFault = plans.Faulted disk.ReadFault
+why stop.WriteFault = plans.Faulted disk.WriteFault
+why stop.Memory = plans.Faulted disk.Memory
+
+-- what a step gave
+abbrev pub gave : {X Y : Type 0} → (X → Y) → Result X Stop → Result Y (plans.Halt command.Refusal)
+gave view (Ok x) = Ok (view x)
+gave view (Err e) = Err (why e)
+
+-- A step does what the plan does, and gives what the plan gives.
+abbrev pub Does : {X Y : Type 0} → (X → Y) → command.Work Y → disk.Disk → disk.Disk → Result X Stop → Type 0
+Does view plan old new result = plans.Runs plan old new (gave view result)
+
+-- A step that reads no file and takes no memory gives what the definition gives, its value or its refusal.
+abbrev pub Settles : {X Y : Type 0} → (X → Y) → Result X Refusal → command.Work Y → Type 0
+Settles view (Ok x) plan = plan ≡ plans.Done (view x)
+Settles view (Err r) plan = plan ≡ plans.Refuse (refusal_of r)
+
+-- The same of a step that may want memory.
+abbrev pub Judges : {X Y : Type 0} → (X → Y) → Result X Stop → command.Work Y → Type 0
+Judges view (Ok x) plan = plan ≡ plans.Done (view x)
+Judges view (Err (stop.Refused r)) plan = plan ≡ plans.Refuse (refusal_of r)
+Judges view (Err stop.ReadFault) plan = ⊥
+Judges view (Err stop.WriteFault) plan = ⊥
+Judges view (Err stop.Memory) plan = Unit {0}

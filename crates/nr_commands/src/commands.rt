@@ -1,0 +1,31 @@
+//! The table of commands.
+
+ghost use Rattle.nr_spec_program.specs.Command.{plan_of};
+ghost use Rattle.nr_commands.specs.Views.{Does};
+ghost use Rattle.nr_requests.specs.Views.{request_of};
+ghost use Rattle.nr_commands.specs.Endings.{ending_of};
+
+use crate::audit::audit;
+use crate::check::check_promise;
+use crate::ending::Ending;
+use crate::keygen::keygen;
+use crate::refusal::Stop;
+use nr_ports::Files;
+use nr_requests::Request;
+use std::alloc::Global;
+
+/// What a request gives: its ending, or the first thing that stops it.
+#[tactic(auto, unfolding(nr_spec_program::specs::Command::plan_of))]
+pub fn perform<F: Files>(
+    alloc: Global,
+    files: &mut F,
+    request: &Request<'_>,
+) -> Result<Ending, Stop>
+    ensures { Does ending_of (plan_of (request_of request.now)) (F.disk files.old) (F.disk files.new) result }
+{
+    match request {
+        Request::Audit(audit_request) => audit(alloc, files, audit_request),
+        Request::Keygen(keygen_request) => keygen(alloc, files, keygen_request),
+        Request::Check(check_request) => check_promise(alloc, files, check_request),
+    }
+}

@@ -1,0 +1,32 @@
+-- What a request stands for in the definitions.
+use Rattle.nr_spec_history.specs.Conflicts as conflicts
+use Rattle.nr_spec_commands.specs.Words as words
+use Rattle.nr_requests.specs.declared.numbers.Period as declared_period
+use Rattle.nr_requests.specs.declared.request.AuditRequest as declared_audit
+use Rattle.nr_requests.specs.declared.key_request.KeygenRequest as declared_keygen
+use Rattle.nr_requests.specs.declared.request.CheckRequest as declared_check
+use Rattle.nr_requests.specs.declared.request.Request.{Request}
+use Rattle.nr_requests.specs.declared.request.Request.TheVariants as request
+
+abbrev pub period_of : declared_period.Period → conflicts.Period
+period_of p = record { from = p.from; to = p.to }
+
+abbrev pub audit_request_of : declared_audit.AuditRequest → words.AuditRequest
+audit_request_of q = record {
+  root = q.root.0;
+  promise = q.promise.now;
+  answer = q.answer.now;
+  auths = q.auths.now;
+  period = period_of q.period;
+}
+
+abbrev pub keygen_request_of : declared_keygen.KeygenRequest → words.KeygenRequest
+keygen_request_of q = record { asn = q.asn; height = q.height; seed = q.seed.now; key = q.key.now }
+
+abbrev pub check_request_of : declared_check.CheckRequest → words.CheckRequest
+check_request_of q = record { promise = q.promise.now }
+
+abbrev pub request_of : Request → words.Request
+request_of (request.Audit q) = words.Audit (audit_request_of q)
+request_of (request.Keygen q) = words.Keygen (keygen_request_of q)
+request_of (request.Check q) = words.Check (check_request_of q)

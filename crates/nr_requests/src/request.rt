@@ -1,0 +1,227 @@
+//! The commands: which words each takes, and what they ask for.
+
+ghost use Rattle.std.specs.Prelude.{◌≡◌, map, option_map, IfOk};
+ghost use Rattle.std.specs.String.{string_bytes};
+ghost use Rattle.nr_words.specs.Views.{given_by};
+ghost use Rattle.nr_spec_commands.specs.Words.{audit_in, audit_request, check_in, check_request, keygen_in, keygen_request, request_in, value_at};
+ghost use Rattle.nr_requests.specs.Views.{audit_request_of, check_request_of, keygen_request_of, request_of};
+
+use crate::key_request::KeygenRequest;
+use crate::numbers::{Period, number_between, number_of, period_from};
+use crate::roots::root_in;
+use nr_bytes::Memory;
+use nr_chain::Digest;
+use nr_words::{Grammar, OptionRule, Values, values_of};
+use std::alloc::Global;
+
+const AUDIT: Grammar = Grammar {
+    command: "audit",
+    options: &[
+        OptionRule {
+            name: "root",
+            required: true,
+        },
+        OptionRule {
+            name: "promise",
+            required: true,
+        },
+        OptionRule {
+            name: "answer",
+            required: true,
+        },
+        OptionRule {
+            name: "auths",
+            required: true,
+        },
+        OptionRule {
+            name: "from",
+            required: true,
+        },
+        OptionRule {
+            name: "to",
+            required: true,
+        },
+    ],
+    files: false,
+};
+
+const KEYGEN: Grammar = Grammar {
+    command: "keygen",
+    options: &[
+        OptionRule {
+            name: "as",
+            required: true,
+        },
+        OptionRule {
+            name: "height",
+            required: true,
+        },
+        OptionRule {
+            name: "seed",
+            required: true,
+        },
+        OptionRule {
+            name: "key",
+            required: true,
+        },
+    ],
+    files: false,
+};
+
+const CHECK: Grammar = Grammar {
+    command: "check",
+    options: &[OptionRule {
+        name: "promise",
+        required: true,
+    }],
+    files: false,
+};
+
+const MOST_ASN: u64 = 4_294_967_295;
+
+const MOST_HEIGHT: u64 = 16;
+
+/// What `audit` is asked for: the root of the audited network, the names of three files, and a period.
+#[derive(Clone, Copy, Debug)]
+pub struct AuditRequest<'a> {
+    pub root: Digest,
+    pub promise: &'a str,
+    pub answer: &'a str,
+    pub auths: &'a str,
+    pub period: Period,
+}
+
+/// What `check` is asked for: the name of a promise file.
+#[derive(Clone, Copy, Debug)]
+pub struct CheckRequest<'a> {
+    pub promise: &'a str,
+}
+
+/// What the words ask for.
+#[derive(Clone, Copy, Debug)]
+pub enum Request<'a> {
+    Audit(AuditRequest<'a>),
+    Keygen(KeygenRequest<'a>),
+    Check(CheckRequest<'a>),
+}
+
+// The value of the option at a place of the grammar.
+fn value_of<'a>(values: &Values<'a>, at: usize) -> Option<&'a str>
+    ensures { option_map (λ value. value.now) result ≡ value_at (given_by values.now) at }
+{
+    match values.options.get(at) {
+        Some(value) => *value,
+        None => None,
+    }
+}
+
+#[tactic(auto, unfolding(nr_spec_commands::specs::Words::audit_in))]
+fn audit_from<'a>(values: &Values<'a>) -> Option<AuditRequest<'a>>
+    ensures { option_map audit_request_of result ≡ audit_in (given_by values.now) }
+{
+    let root_word = value_of(values, 0)?;
+    let promise = value_of(values, 1)?;
+    let answer = value_of(values, 2)?;
+    let auths = value_of(values, 3)?;
+    let from_word = value_of(values, 4)?;
+    let to_word = value_of(values, 5)?;
+    let root = root_in(root_word)?;
+    let from = number_of(from_word)?;
+    let to = number_of(to_word)?;
+    let period = period_from(from, to)?;
+    if promise == answer || promise == auths || answer == auths {
+        return None;
+    }
+    Some(AuditRequest {
+        root,
+        promise,
+        answer,
+        auths,
+        period,
+    })
+}
+
+fn audit_words<'a>(alloc: Global, words: &'a [String]) -> Result<Option<Request<'a>>, Memory>
+    ensures { IfOk result (λ request. option_map request_of request ≡ audit_request (map string_bytes words.now)) }
+{
+    let Some(values) = values_of(alloc, &AUDIT, words)? else {
+        return Ok(None);
+    };
+    match audit_from(&values) {
+        None => Ok(None),
+        Some(audit) => Ok(Some(Request::Audit(audit))),
+    }
+}
+
+#[tactic(auto, unfolding(nr_spec_commands::specs::Words::keygen_in))]
+fn keygen_from<'a>(values: &Values<'a>) -> Option<KeygenRequest<'a>>
+    ensures { option_map keygen_request_of result ≡ keygen_in (given_by values.now) }
+{
+    let asn_word = value_of(values, 0)?;
+    let height_word = value_of(values, 1)?;
+    let seed = value_of(values, 2)?;
+    let key = value_of(values, 3)?;
+    let asn = number_between(0, MOST_ASN, asn_word)?;
+    let height = number_between(1, MOST_HEIGHT, height_word)?;
+    if seed == key {
+        return None;
+    }
+    Some(KeygenRequest {
+        asn: asn as u32,
+        height: height as u8,
+        seed,
+        key,
+    })
+}
+
+fn keygen_words<'a>(alloc: Global, words: &'a [String]) -> Result<Option<Request<'a>>, Memory>
+    ensures { IfOk result (λ request. option_map request_of request ≡ keygen_request (map string_bytes words.now)) }
+{
+    let Some(values) = values_of(alloc, &KEYGEN, words)? else {
+        return Ok(None);
+    };
+    match keygen_from(&values) {
+        None => Ok(None),
+        Some(keygen) => Ok(Some(Request::Keygen(keygen))),
+    }
+}
+
+#[tactic(auto, unfolding(nr_spec_commands::specs::Words::check_in))]
+fn check_from<'a>(values: &Values<'a>) -> Option<CheckRequest<'a>>
+    ensures { option_map check_request_of result ≡ check_in (given_by values.now) }
+{
+    let promise = value_of(values, 0)?;
+    Some(CheckRequest { promise })
+}
+
+fn check_words<'a>(alloc: Global, words: &'a [String]) -> Result<Option<Request<'a>>, Memory>
+    ensures { IfOk result (λ request. option_map request_of request ≡ check_request (map string_bytes words.now)) }
+{
+    let Some(values) = values_of(alloc, &CHECK, words)? else {
+        return Ok(None);
+    };
+    match check_from(&values) {
+        None => Ok(None),
+        Some(check) => Ok(Some(Request::Check(check))),
+    }
+}
+
+/// What the words ask for. `None` exactly where they aren't taken.
+#[tactic(auto, unfolding(nr_spec_commands::specs::Words::request_in))]
+pub fn request_from<'a>(alloc: Global, words: &'a [String]) -> Result<Option<Request<'a>>, Memory>
+    ensures { IfOk result (λ request. option_map request_of request ≡ request_in (map string_bytes words.now)) }
+{
+    let Some(command) = words.first() else {
+        return Ok(None);
+    };
+    if command.as_str() == "audit" {
+        return audit_words(alloc, words);
+    }
+    if command.as_str() == "keygen" {
+        return keygen_words(alloc, words);
+    }
+    if command.as_str() == "check" {
+        return check_words(alloc, words);
+    }
+    Ok(None)
+}
