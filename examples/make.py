@@ -1,9 +1,10 @@
 #!/usr/bin/env python3
 """Writes the files of this folder and of the program's stored run anew, from the formats alone, and prints roots.
 
-The network AS 64500 answers with a log of four entries, kept under the file `promises`. A neighbour holds two authenticators that the
-network signed: one of entry 3 as it stands in the answer, and one of another entry 3, with another message. The
-network kept two logs, and the second authenticator shows it.
+The network AS 64500 answers with a log of five entries, kept under the file `promises`. A neighbour holds two authenticators
+that the network signed: one of entry 3 as it stands in the answer, and one of another entry 3, with another message. The
+network kept two logs, and the second authenticator shows it. Entry 4 is a message to neighbour 1, which the file doesn't
+declare.
 
 Everything is signed by keys of one seed that is no secret: the bytes 0 to 31. A real seed comes from the system's
 random source (docs/keys.md).
@@ -35,18 +36,19 @@ MISTAKE = PROMISES.replace(b"sent(transit)", b"sent(transit_a)")
 SECOND = 1_000_000
 
 
-def sent(last_byte):
-    """A SEND to neighbour 0, the transit, of a message that withdraws 10.x.0.0/16, where x is this byte."""
+def sent(neighbour, last_byte):
+    """A SEND to a neighbour, of which 0 is the transit, of a message that withdraws 10.x.0.0/16, where x is this byte."""
     message = b"\xff" * 16 + struct.pack(">HBH", 26, 2, 3) + bytes([16, 10, last_byte]) + b"\0\0"
-    return struct.pack(">HB", 0, 1) + message
+    return struct.pack(">HB", neighbour, 1) + message
 
 
 def log_of(last_byte):
     """The log of the network, with this message as its third entry."""
     log = logs.Log(AS)
     log.add(0, logs.PROMISE, logs.promise(PROMISES, 1, 60))
-    log.add(5 * SECOND, 1, sent(1))
-    log.add(6 * SECOND, 1, sent(last_byte))
+    log.add(5 * SECOND, 1, sent(0, 1))
+    log.add(6 * SECOND, 1, sent(0, last_byte))
+    log.add(7 * SECOND, 1, sent(1, 1))
     log.add(9 * SECOND, logs.COMMIT, logs.commit(logs.AUDITOR, 0))
     return log
 
@@ -78,6 +80,7 @@ def write_example():
     print("examples/root: root", tree.root.hex())
     print("examples/check: malformed promise", MISTAKE.index(b"transit_a"))
     print("examples/audit: conflict 3 %d %s" % (6 * SECOND, hidden.values[3].hex()))
+    print("examples/audit: wrong 4 neighbour")
 
 
 def write_stored_run():

@@ -321,6 +321,12 @@ fn audits_under_the_promises_of_the_network(rt: HostRuntime) -> Result<(), Fail>
             "refused network 64500 64501\n",
         ),
         (T0.as_slice(), &unsigned, 7, "refused head unsigned\n"),
+        (
+            b"network 64500; commit 61;".as_slice(),
+            &answer,
+            7,
+            "refused promise 1375025123b16bf96231b58c900e4c344b41888c97be7aab4f6188ed86365723 0f227a5188f3acc8f155bed784e12de0f62508d2cabcbac669cad45fdef796aa\n",
+        ),
         (SHORT.as_slice(), &answer, 3, "malformed promise 14\n"),
     ] {
         assert!(rt;

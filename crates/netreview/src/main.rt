@@ -12,6 +12,8 @@ mod outside_tests;
 mod run;
 #[cfg(test)]
 mod tests;
+#[cfg(test)]
+mod wrong_tests;
 
 use nr_system::{Access, NoWords, Output, SystemFiles, words};
 use run::run;

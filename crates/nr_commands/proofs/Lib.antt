@@ -1,3 +1,3 @@
 pub mod PlanSteps
-pub mod LinkLemmas
+pub mod Judging
 pub mod ReportLemmas

@@ -1,9 +1,8 @@
 -- What the endings of the code stand for in the definitions.
 use Rattle.std.specs.Prelude.{◌≡◌, ℕ, List}
-use Rattle.std.specs.List.{flat_map}
-use Rattle.nr_spec_log.specs.Authenticator.{Authenticator}
-use Rattle.nr_spec_history.specs.Report.{conflict_line}
 use Rattle.nr_spec_history.specs.KeyFiles.{Key}
+use Rattle.nr_spec_report.specs.Claims.{Report}
+use Rattle.nr_spec_report.specs.Lines.{report_lines}
 use Rattle.nr_lamport.specs.declared.seed.Seed.{Seed}
 use Rattle.nr_requests.specs.declared.key_request.KeygenRequest.{KeygenRequest}
 use Rattle.nr_spec_program.specs.Command as command
@@ -20,7 +19,6 @@ fixed_of e = record { status = e.status; text = e.text.now }
 abbrev pub key_of : KeygenRequest → Seed → Key
 key_of q seed = record { asn = q.asn; height = q.height; seed = seed.0 }
 
--- the ending of the report whose conflicts have these lines
+-- the ending of the report that has these lines
 abbrev pub Reports : List ℕ → command.Ending → Type 0
-Reports lines e =
-    (conflicts : List Authenticator) → lines ≡ flat_map conflict_line conflicts → e ≡ command.report_ending conflicts
+Reports lines e = (report : Report) → lines ≡ report_lines report → e ≡ command.report_ending report

@@ -1,4 +1,3 @@
 pub mod Views
-pub mod Links
 pub mod Endings
 pub mod Nested

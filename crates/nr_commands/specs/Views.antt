@@ -1,6 +1,7 @@
 -- What this crate's types stand for in the definitions.
-use Rattle.std.specs.Prelude.{◌≡◌, ℕ, List, Result, Ok, Err}
-use Rattle.nr_spec_history.specs.Report as report
+use Rattle.std.specs.Prelude.{◌≡◌, ℕ, List, Result, Ok, Err, option_map}
+use Rattle.nr_spec_report.specs.Outcome as outcome
+use Rattle.nr_chain.specs.Views.{digest_bytes}
 use Rattle.nr_lamport.specs.declared.seed.Seed.{Seed}
 use Rattle.nr_spec_plans.specs.Disk as disk
 use Rattle.nr_spec_plans.specs.Plans as plans
@@ -12,6 +13,8 @@ use Rattle.nr_rule_syntax.specs.declared.fault.ParseError.{ParseError}
 use Rattle.nr_rule_syntax.specs.declared.fault.ParseError.TheVariants as parse
 use Rattle.nr_rule_types.specs.declared.fault.TypeError.{TypeError}
 use Rattle.nr_rule_types.specs.declared.fault.TypeError.TheVariants as typing
+use Rattle.nr_audit.specs.declared.refusal.Refusal as declared_unaudited
+use Rattle.nr_audit.specs.declared.refusal.Refusal.TheVariants as unaudited
 use Rattle.nr_spec_program.specs.Command as command
 use Rattle.nr_spec_program.specs.Promises as promises
 use Rattle.nr_commands.specs.declared.promise_file.PromiseFile as declared_promise
@@ -30,12 +33,13 @@ input_of input.Answer = command.AnswerInput
 input_of input.Auths = command.AuthsInput
 input_of input.Seed = command.SeedInput
 
-abbrev pub fact_of : Fact → report.Fact
-fact_of fact.Form = report.Form
-fact_of (fact.Network found wanted) = report.Network found wanted
-fact_of fact.Unsigned = report.Unsigned
-fact_of (fact.Head head chain) = report.Head head.0 chain.0
-fact_of (fact.Short head to) = report.Short head to
+abbrev pub fact_of : Fact → outcome.Fact
+fact_of fact.Form = outcome.Form
+fact_of (fact.Network found wanted) = outcome.Network found wanted
+fact_of fact.Unsigned = outcome.Unsigned
+fact_of (fact.Head head chain) = outcome.Head head.0 chain.0
+fact_of (fact.Short head to) = outcome.Short head to
+fact_of (fact.Promise found file) = outcome.Promise (option_map digest_bytes found) file.0
 
 abbrev pub refusal_of : Refusal → command.Refusal
 refusal_of (refusal.NoFile i) = command.NoFile (input_of i)
@@ -61,8 +65,21 @@ abbrev pub untyped_of : TypeError → Stop
 untyped_of (typing.At place) = stop.Refused (refusal.Malformed input.Promise place)
 untyped_of typing.Memory = stop.Memory
 
+-- what refuses a command by a fact
+abbrev pub by_fact : Fact → Stop
+by_fact f = stop.Refused (refusal.Refused f)
+
+-- why an audit that gives no report ends a command
+abbrev pub unaudited_of : declared_unaudited.Refusal → Stop
+unaudited_of (unaudited.Network answer promise) = by_fact (fact.Network answer promise)
+unaudited_of unaudited.Unsigned = by_fact fact.Unsigned
+unaudited_of (unaudited.Head head chain) = by_fact (fact.Head head chain)
+unaudited_of (unaudited.Short head to) = by_fact (fact.Short head to)
+unaudited_of (unaudited.Promise found file) = by_fact (fact.Promise found file)
+unaudited_of unaudited.Memory = stop.Memory
+
 abbrev pub promise_file_of : declared_promise.PromiseFile → promises.PromiseFile
-promise_file_of p = record { file = p.file; says = p.says }
+promise_file_of p = record { digest = p.digest.0; file = p.file; says = p.says }
 
 -- why a file that isn't written in whole ends a command
 abbrev pub halt_of : WriteFault → Stop

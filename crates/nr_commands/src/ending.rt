@@ -1,13 +1,16 @@
 //! How the program ends: with a status and a text for the sink.
 
-ghost use Rattle.std.specs.Prelude.{◌≡◌, IfOk};
+ghost use Rattle.std.specs.Prelude.{◌≡◌, IfOk, option_map};
+ghost use Rattle.std.specs.String.{string_bytes};
+ghost use Rattle.nr_chain.specs.Views.{digest_bytes};
 ghost use Rattle.nr_spec_plans.specs.Disk as disk;
-ghost use Rattle.nr_spec_program.specs.Command.{usage_ending, refusal_ending, fault_ending};
+ghost use Rattle.nr_spec_program.specs.Command.{usage_ending, digest_word, refusal_ending, fault_ending};
 ghost use Rattle.nr_commands.specs.Views.{refusal_of};
 ghost use Rattle.nr_commands.specs.Endings.{fixed_of, ending_of};
 
 use crate::input::{limit_of, name_of};
 use crate::refusal::{Fact, Refusal};
+use nr_chain::Digest;
 use std::alloc::{AllocError, Global};
 
 /// A status and a text that takes no memory.
@@ -64,6 +67,16 @@ pub fn out_of_memory() -> Fixed
     }
 }
 
+// A digest, or the word `none`.
+fn digest_word(alloc: Global, digest: Option<Digest>) -> Result<String, AllocError>
+    ensures { IfOk result (λ text. string_bytes text ≡ digest_word (option_map digest_bytes digest)) }
+{
+    match digest {
+        None => String::from_str(alloc, "none"),
+        Some(digest) => hex::encode(alloc, digest.0.as_slice()),
+    }
+}
+
 #[tactic(auto, unfolding(nr_spec_program::specs::Command::refusal_ending))]
 fn fact_ending(alloc: Global, fact: Fact) -> Result<Ending, AllocError>
     ensures { IfOk result (λ e. ending_of e ≡ refusal_ending (refusal_of (Refusal.Refused fact))) }
@@ -80,6 +93,11 @@ fn fact_ending(alloc: Global, fact: Fact) -> Result<Ending, AllocError>
             format!(in alloc; "refused head {head} {chain}\n")?
         }
         Fact::Short { head, to } => format!(in alloc; "refused short {head} {to}\n")?,
+        Fact::Promise { found, file } => {
+            let found = digest_word(alloc, found)?;
+            let file = hex::encode(alloc, file.0.as_slice())?;
+            format!(in alloc; "refused promise {found} {file}\n")?
+        }
     };
     Ok(Ending {
         status: 7,

@@ -4,7 +4,7 @@ ghost use Rattle.std.specs.Prelude.{◌≡◌, ◌∷◌, [], codes, IfOk};
 ghost use Rattle.std.specs.String.{string_bytes};
 ghost use Rattle.hex.specs.Hex.{encode_lower};
 ghost use Rattle.nr_spec_history.specs.KeyFiles.{key_file, key_root};
-ghost use Rattle.nr_spec_history.specs.Report.{line};
+ghost use Rattle.nr_spec_history.specs.Lines.{line};
 ghost use Rattle.nr_spec_program.specs.Command.{keygen_plan, key_plan, key_ending};
 ghost use Rattle.nr_commands.specs.Views.{Does};
 ghost use Rattle.nr_requests.specs.Views.{keygen_request_of};

@@ -4,15 +4,13 @@
 mod audit;
 mod check;
 mod commands;
-mod conflicts;
 mod ending;
 mod input;
 mod keygen;
-mod links;
 mod promise_file;
 mod reading;
 mod refusal;
-mod signatures;
+mod report;
 mod writing;
 
 pub use commands::perform;

@@ -23,6 +23,7 @@ use crate::promise_file::PromiseFile;
 use crate::refusal::{Refusal, Stop};
 use nr_answer::{Answer, Auths};
 use nr_bytes::{Cursor, Place};
+use nr_chain::sha256;
 use nr_lamport::Seed;
 use nr_ports::{Files, read_whole};
 use nr_rule_syntax::parse;
@@ -57,7 +58,11 @@ fn promise_from(alloc: Global, text: &[u8]) -> Result<PromiseFile, Stop>
 {
     let file = parse(alloc, text)?;
     let says = check(alloc, &file)?;
-    Ok(PromiseFile { file, says })
+    Ok(PromiseFile {
+        digest: sha256(text),
+        file,
+        says,
+    })
 }
 
 /// What the promise file of this name says.

@@ -1,10 +1,12 @@
 //! Why a command ends without its text.
 
 ghost use Rattle.std.specs.Prelude.{◌≡◌};
+ghost use Rattle.nr_commands.specs.declared.refusal.Refusal.TheVariants as refusal;
 ghost use Rattle.nr_commands.specs.declared.refusal.Stop.TheVariants as stop;
-ghost use Rattle.nr_commands.specs.Views.{stop_of, halt_of, unread_of, untyped_of};
+ghost use Rattle.nr_commands.specs.Views.{stop_of, halt_of, unread_of, untyped_of, unaudited_of};
 
 use crate::input::Input;
+use nr_audit::Refusal as Unaudited;
 use nr_bytes::{Memory, Place};
 use nr_chain::Digest;
 use nr_ports::{Failed, ReadFault, WriteFault};
@@ -25,6 +27,8 @@ pub enum Fact {
     Head { head: Digest, chain: Digest },
     /// Its head's time, in microseconds, isn't above the period's end.
     Short { head: u64, to: u64 },
+    /// A promise in force in the period is that of no promise file, which has this digest, or none is in force there.
+    Promise { found: Option<Digest>, file: Digest },
 }
 
 /// The first thing that refuses a command.
@@ -105,6 +109,32 @@ impl From<TypeError> for Stop {
         match fault {
             TypeError::At(place) => Stop::Refused(Refusal::Malformed(Input::Promise, place)),
             TypeError::Memory => Stop::Memory,
+        }
+    }
+}
+
+impl From<Fact> for Stop {
+    ghost from_gives = { λ fact e. e ≡ stop.Refused (refusal.Refused fact) };
+
+    fn from(fact: Fact) -> Stop {
+        Stop::Refused(Refusal::Refused(fact))
+    }
+}
+
+impl From<Unaudited> for Stop {
+    ghost from_gives = { λ fault e. e ≡ unaudited_of fault };
+
+    fn from(fault: Unaudited) -> Stop {
+        match fault {
+            Unaudited::Network { answer, promise } => Stop::from(Fact::Network {
+                found: answer,
+                wanted: promise,
+            }),
+            Unaudited::Unsigned => Stop::from(Fact::Unsigned),
+            Unaudited::Head { head, chain } => Stop::from(Fact::Head { head, chain }),
+            Unaudited::Short { head, to } => Stop::from(Fact::Short { head, to }),
+            Unaudited::Promise { found, file } => Stop::from(Fact::Promise { found, file }),
+            Unaudited::Memory => Stop::Memory,
         }
     }
 }

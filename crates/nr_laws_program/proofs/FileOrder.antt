@@ -9,12 +9,13 @@ use Rattle.nr_spec_plans.specs.Laws.{Each, IsAmong}
 use Rattle.nr_spec_plans.specs.Steps.{OnlyBy}
 use Rattle.nr_spec_plans.specs.Order.{Refuses, Allows}
 use Rattle.nr_spec_plans.proofs.OrderLaws.{refused_by, refuses_followed, allows_followed}
-use Rattle.nr_spec_log.specs.Authenticator.{Authenticator, auths_of}
+use Rattle.nr_spec_log.specs.Authenticator.{auths_of}
 use Rattle.nr_spec_log.specs.Answer.{AnswerFile, answer_of}
-use Rattle.nr_spec_history.specs.Report as report
 use Rattle.nr_spec_history.specs.KeyFiles.{seed_of}
+use Rattle.nr_spec_report.specs.Claims.{Report}
+use Rattle.nr_spec_report.specs.Outcome.{Fact, outcome}
 use Rattle.nr_spec_commands.specs.Words.{AuditRequest, CheckRequest, KeygenRequest, Request, Audit, Check, Keygen, request_in}
-use Rattle.nr_spec_program.specs.Promises.{PromiseFile, promise_of}
+use Rattle.nr_spec_program.specs.Promises.{PromiseFile, promise_of, audited_by}
 use Rattle.nr_spec_program.specs.Command.{Input, PromiseInput, AnswerInput, AuthsInput, SeedInput, Work, Ending, Refusal, NoFile, Limit, Malformed, load, sized, well_formed, concluded, promise_plan, check_plan, audit_plan, key_plan, keygen_plan, plan_of, plan_in, plan_for, input_limit}
 use Rattle.nr_spec_program.specs.Command as command
 use Rattle.nr_spec_program.specs.Running.{RunsTo}
@@ -35,8 +36,8 @@ formed_refuses : {A : Type 0} (P : Refusal → Type 0) (input : Input) (found : 
 formed_refuses P input (Ok value) malformed = tt
 formed_refuses P input (Err place) malformed = malformed place
 
-concluded_refuses : (P : Refusal → Type 0) (found : Result (List Authenticator) report.Fact) → ((fact : report.Fact) → P (command.Refused fact)) → Refuses P (concluded found)
-concluded_refuses P (Ok conflicts) fact_has = tt
+concluded_refuses : (P : Refusal → Type 0) (found : Result Report Fact) → ((fact : Fact) → P (command.Refused fact)) → Refuses P (concluded found)
+concluded_refuses P (Ok report) fact_has = tt
 concluded_refuses P (Err fact) fact_has = fact_has fact
 
 -- ---- each part of a plan by itself
@@ -57,8 +58,8 @@ formed_allows : {A : Type 0} (allowed : Refusal → Action → Type 0) (input : 
 formed_allows allowed input (Ok value) = tt
 formed_allows allowed input (Err place) = tt
 
-concluded_allows : (allowed : Refusal → Action → Type 0) (found : Result (List Authenticator) report.Fact) → Allows allowed (concluded found)
-concluded_allows allowed (Ok conflicts) = tt
+concluded_allows : (allowed : Refusal → Action → Type 0) (found : Result Report Fact) → Allows allowed (concluded found)
+concluded_allows allowed (Ok report) = tt
 concluded_allows allowed (Err fact) = tt
 
 promise_allows : (allowed : Refusal → Action → Type 0) (name : List ℕ) → allowed (NoFile PromiseInput) (Ask name) → ((found : ℕ) → allowed (Limit PromiseInput found) (Ask name))
@@ -78,7 +79,7 @@ promise_allows allowed name none limit asked read =
 -- answer on.
 record OfAuths (P : Refusal → Type 0) : Type 0 where
   pub malformed : (place : ℕ) → P (Malformed AuthsInput place)
-  pub fact : (fact : report.Fact) → P (command.Refused fact)
+  pub fact : (fact : Fact) → P (command.Refused fact)
 
 record OfContent (P : Refusal → Type 0) : Type 0 where
   pub malformed : (place : ℕ) → P (Malformed AnswerInput place)
@@ -130,17 +131,17 @@ audit_allows q =
     (λ auths_bytes. allows_followed (Permits (Audit q)) _ _ (formed_allows (Permits (Audit q)) AuthsInput (auths_of auths_bytes)) (well_formed_each _ AuthsInput (auths_of auths_bytes)) (λ auths. concluded_allows (Permits (Audit q)) _)))))
   where
     on_auths : (promise : PromiseFile) (answer : AnswerFile) (bytes : List ℕ) (P : Refusal → Type 0) → OfAuths P
-        → Refuses P (well_formed AuthsInput (auths_of bytes) >>= λ auths. Room (concluded (report.outcome q.root promise.says.network answer q.period auths)))
+        → Refuses P (well_formed AuthsInput (auths_of bytes) >>= λ auths. Room (concluded (outcome q.root (audited_by promise ∷ []) answer q.period auths)))
     on_auths promise answer bytes P of = refuses_followed P _ _ (formed_refuses P AuthsInput (auths_of bytes) of.malformed) (λ auths. concluded_refuses P _ of.fact)
 
     on_content : (promise : PromiseFile) (bytes : List ℕ) (P : Refusal → Type 0) → OfContent P
-        → Refuses P (well_formed AnswerInput (answer_of bytes) >>= λ answer. load AuthsInput q.auths >>= λ auths_bytes. well_formed AuthsInput (auths_of auths_bytes) >>= λ auths. Room (concluded (report.outcome q.root promise.says.network answer q.period auths)))
+        → Refuses P (well_formed AnswerInput (answer_of bytes) >>= λ answer. load AuthsInput q.auths >>= λ auths_bytes. well_formed AuthsInput (auths_of auths_bytes) >>= λ auths. Room (concluded (outcome q.root (audited_by promise ∷ []) answer q.period auths)))
     on_content promise bytes P of =
         refuses_followed P _ _ (formed_refuses P AnswerInput (answer_of bytes) of.malformed)
         (λ answer. refuses_followed P _ _ (load_refuses P AuthsInput q.auths of.none of.limit) (λ auths_bytes. on_auths promise answer auths_bytes P of.later))
 
     on_answer : (promise : PromiseFile) (P : Refusal → Type 0) → OfAnswer P
-        → Refuses P (load AnswerInput q.answer >>= λ bytes. well_formed AnswerInput (answer_of bytes) >>= λ answer. load AuthsInput q.auths >>= λ auths_bytes. well_formed AuthsInput (auths_of auths_bytes) >>= λ auths. Room (concluded (report.outcome q.root promise.says.network answer q.period auths)))
+        → Refuses P (load AnswerInput q.answer >>= λ bytes. well_formed AnswerInput (answer_of bytes) >>= λ answer. load AuthsInput q.auths >>= λ auths_bytes. well_formed AuthsInput (auths_of auths_bytes) >>= λ auths. Room (concluded (outcome q.root (audited_by promise ∷ []) answer q.period auths)))
     on_answer promise P of = refuses_followed P _ _ (load_refuses P AnswerInput q.answer of.none of.limit) (λ bytes. on_content promise bytes P of.later)
 
 -- ---- the other requests

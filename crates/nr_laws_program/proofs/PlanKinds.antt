@@ -5,13 +5,14 @@ use Rattle.std.proofs.lemmas.Bool.{cases_Bool}
 use Rattle.nr_spec_plans.specs.Plans.{Done, Room, Refuse, Act, followed_by, ◌>>=◌, want, save, Action, Ask, Read, Cut, Write, Sync}
 use Rattle.nr_spec_plans.specs.Laws.{Each, Ends}
 use Rattle.nr_spec_plans.proofs.PlanLaws.{each_followed, ends_followed}
-use Rattle.nr_spec_log.specs.Authenticator.{Authenticator, auths_of}
+use Rattle.nr_spec_log.specs.Authenticator.{auths_of}
 use Rattle.nr_spec_log.specs.Answer.{answer_of}
-use Rattle.nr_spec_history.specs.Report as report
 use Rattle.nr_spec_history.specs.KeyFiles.{seed_of}
+use Rattle.nr_spec_report.specs.Claims.{Claim, Report, claims_of}
+use Rattle.nr_spec_report.specs.Outcome.{Fact}
 use Rattle.nr_spec_program.specs.Promises.{promise_of}
 use Rattle.nr_spec_commands.specs.Words.{AuditRequest, CheckRequest, KeygenRequest, Request, Audit, Check, Keygen}
-use Rattle.nr_spec_program.specs.Command.{Input, Work, Ending, Refusal, NoFile, Limit, Malformed, refusal_ending, load, sized, well_formed, concluded, promise_plan, check_plan, audit_plan, key_plan, keygen_plan, plan_of, input_limit, promise_ending, report_ending, key_ending}
+use Rattle.nr_spec_program.specs.Command.{Input, Work, Ending, Refusal, NoFile, Limit, Malformed, refusal_ending, load, sized, well_formed, concluded, promise_plan, check_plan, audit_plan, key_plan, keygen_plan, plan_of, input_limit, promise_ending, report_ending, report_status, key_ending}
 use Rattle.nr_spec_program.specs.Causes.{EndOf}
 use Rattle.nr_spec_program.specs.Command as command
 
@@ -35,8 +36,8 @@ pub well_formed_each : {A : Type 0} (kind : Action → Type 0) (input : Input) (
 well_formed_each kind input (Ok value) = tt
 well_formed_each kind input (Err place) = tt
 
-concluded_each : (kind : Action → Type 0) (found : Result (List Authenticator) report.Fact) → Each kind (concluded found)
-concluded_each kind (Ok conflicts) = tt
+concluded_each : (kind : Action → Type 0) (found : Result Report Fact) → Each kind (concluded found)
+concluded_each kind (Ok report) = tt
 concluded_each kind (Err fact) = tt
 
 pub promise_each : (kind : Action → Type 0) (name : List ℕ) → KindReads kind name → Each kind (promise_plan name)
@@ -66,8 +67,8 @@ keygen_each kind q is cut write sync = each_followed kind (key_plan q) _ (key_ea
 
 -- ---- endings
 
-report_ends : (found : Result (List Authenticator) report.Fact) → Ends (λ e. (conflicts : List Authenticator) × (e ≡ report_ending conflicts)) (concluded found)
-report_ends (Ok conflicts) = (conflicts, refl)
+report_ends : (found : Result Report Fact) → Ends (λ e. (report : Report) × (e ≡ report_ending report)) (concluded found)
+report_ends (Ok report) = (report, refl)
 report_ends (Err fact) = tt
 
 pub request_ends : (request : Request) → Ends (EndOf request) (plan_of request)
@@ -78,14 +79,17 @@ request_ends (Audit q) =
 request_ends (Keygen q) = ends_followed (EndOf (Keygen q)) _ _ (λ key. ends_followed (EndOf (Keygen q)) want _ (λ room. ends_followed (EndOf (Keygen q)) _ _ (λ done. (key, refl))))
 
 -- the statuses of endings
-report_low : (conflicts : List Authenticator) → (report_ending conflicts).status ≤ 1
+claims_low : (claims : List Claim) → report_status claims ≤ 1
+claims_low [] = omega arith
+claims_low (first ∷ others) = omega arith
+
+report_low : (report : Report) → (report_ending report).status ≤ 1
 unfolding report_ending
-report_low [] = omega arith
-report_low (first ∷ others) = omega arith
+report_low report = claims_low (claims_of report)
 
 pub ends_low : (request : Request) (e : Ending) → EndOf request e → e.status ≤ 1
 unfolding promise_ending key_ending
-ends_low (Audit q) e (conflicts, is) = rw is (report_low conflicts)
+ends_low (Audit q) e (report, is) = rw is (report_low report)
 ends_low (Keygen q) e (key, is) = rw is (omega arith)
 ends_low (Check q) e (promise, is) = rw is (omega arith)
 

@@ -1,15 +1,11 @@
--- What a request stands for in the definitions.
-use Rattle.nr_spec_history.specs.Conflicts as conflicts
+-- What a request of the code stands for in the definitions.
 use Rattle.nr_spec_commands.specs.Words as words
-use Rattle.nr_requests.specs.declared.numbers.Period as declared_period
+use Rattle.nr_evidence.specs.Views.{period_of}
 use Rattle.nr_requests.specs.declared.request.AuditRequest as declared_audit
 use Rattle.nr_requests.specs.declared.key_request.KeygenRequest as declared_keygen
 use Rattle.nr_requests.specs.declared.request.CheckRequest as declared_check
 use Rattle.nr_requests.specs.declared.request.Request.{Request}
 use Rattle.nr_requests.specs.declared.request.Request.TheVariants as request
-
-abbrev pub period_of : declared_period.Period → conflicts.Period
-period_of p = record { from = p.from; to = p.to }
 
 abbrev pub audit_request_of : declared_audit.AuditRequest → words.AuditRequest
 audit_request_of q = record {

@@ -7,5 +7,4 @@ mod request;
 mod roots;
 
 pub use key_request::KeygenRequest;
-pub use numbers::Period;
 pub use request::{AuditRequest, CheckRequest, Request, request_from};

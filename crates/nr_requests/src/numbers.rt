@@ -4,17 +4,12 @@ ghost use Rattle.std.specs.Prelude.{◌≡◌, ◌≤◌, IsTrue, IfSome, option
 ghost use Rattle.std.specs.Str.{all_ascii_digits};
 ghost use Rattle.std.specs.Str.Parse.{digits_value};
 ghost use Rattle.nr_spec_commands.specs.Words.{is_decimal, number_in, number_from, period_between};
-ghost use Rattle.nr_requests.specs.Views.{period_of};
+ghost use Rattle.nr_evidence.specs.Views.{period_of};
+
+use nr_evidence::Period;
 
 // The greatest number that a word may write.
 const MOST_NUMBER: u64 = 9_223_372_036_854_775_807;
-
-/// A period in microseconds, both ends included.
-#[derive(Clone, Copy, Debug)]
-pub struct Period {
-    pub from: u64,
-    pub to: u64,
-}
 
 fn are_digits(word: &[u8]) -> bool
     ensures { result ≡ all_ascii_digits word.now }

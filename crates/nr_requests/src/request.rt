@@ -7,10 +7,11 @@ ghost use Rattle.nr_spec_commands.specs.Words.{audit_in, audit_request, check_in
 ghost use Rattle.nr_requests.specs.Views.{audit_request_of, check_request_of, keygen_request_of, request_of};
 
 use crate::key_request::KeygenRequest;
-use crate::numbers::{Period, number_between, number_of, period_from};
+use crate::numbers::{number_between, number_of, period_from};
 use crate::roots::root_in;
 use nr_bytes::Memory;
 use nr_chain::Digest;
+use nr_evidence::Period;
 use nr_words::{Grammar, OptionRule, Values, values_of};
 use std::alloc::Global;
 

@@ -1,3 +1,3 @@
 pub mod Conflicts
-pub mod Report
+pub mod Lines
 pub mod KeyFiles

@@ -2,14 +2,17 @@
 use Rattle.std.specs.Prelude.{ℕ, nat_le, if◌then◌else◌, List, [], ◌∷◌, Option, None, Some, Result, Ok, Err, codes}
 use Rattle.std.specs.Fmt.{decimal}
 use Rattle.hex.specs.Hex.{encode_lower}
-use Rattle.nr_spec_log.specs.Authenticator.{Authenticator, auths_of}
+use Rattle.nr_spec_log.specs.Authenticator.{auths_of}
 use Rattle.nr_spec_log.specs.Answer.{answer_of}
 use Rattle.nr_spec_history.specs.KeyFiles.{Key, seed_of, key_file, key_root}
 use Rattle.nr_rule_syntax.specs.Printing.{file_text}
-use Rattle.nr_spec_history.specs.Report.{Fact, Form, Network, Unsigned, Head, Short, outcome, line, report_text}
+use Rattle.nr_spec_history.specs.Lines.{line}
+use Rattle.nr_spec_report.specs.Claims.{Claim, Report, claims_of}
+use Rattle.nr_spec_report.specs.Lines.{report_text}
+use Rattle.nr_spec_report.specs.Outcome.{Fact, Form, Network, Unsigned, Head, Short, Promise, outcome}
 use Rattle.nr_spec_plans.specs.Disk.{Fault, ReadFault, WriteFault, Memory}
 use Rattle.nr_spec_plans.specs.Plans.{Plan, Done, Refuse, Room, act, want, Ask, Read, save, ◌>>=◌}
-use Rattle.nr_spec_program.specs.Promises.{PromiseFile, promise_of}
+use Rattle.nr_spec_program.specs.Promises.{PromiseFile, promise_of, audited_by}
 use Rattle.nr_spec_commands.specs.Words.{AuditRequest, CheckRequest, KeygenRequest, Request, Audit, Keygen, Check, request_in}
 
 -- ---- input files
@@ -76,12 +79,18 @@ pub record Ending : Type 0 where
   pub status : ℕ
   pub text : List ℕ
 
+-- a digest, or that there is none
+abbrev pub digest_word : Option (List ℕ) → List ℕ
+digest_word None = codes "none"
+digest_word (Some digest) = encode_lower digest
+
 abbrev pub fact_words : Fact → List (List ℕ)
 fact_words Form = codes "form" ∷ codes "answer" ∷ []
 fact_words (Network found wanted) = codes "network" ∷ decimal found ∷ decimal wanted ∷ []
 fact_words Unsigned = codes "head" ∷ codes "unsigned" ∷ []
 fact_words (Head head chain) = codes "head" ∷ encode_lower head ∷ encode_lower chain ∷ []
 fact_words (Short head to) = codes "short" ∷ decimal head ∷ decimal to ∷ []
+fact_words (Promise found file) = codes "promise" ∷ digest_word found ∷ encode_lower file ∷ []
 
 unfoldable pub refusal_ending : Refusal → Ending
 refusal_ending (NoFile input) =
@@ -95,13 +104,13 @@ refusal_ending (Malformed input place) =
     record { status = 3; text = line (codes "malformed" ∷ input_name input ∷ decimal place ∷ []) }
 refusal_ending (Refused fact) = record { status = 7; text = line (codes "refused" ∷ fact_words fact) }
 
--- 1 where there is a conflict
-abbrev pub report_status : List Authenticator → ℕ
+-- 1 where something is claimed
+abbrev pub report_status : List Claim → ℕ
 report_status [] = 0
 report_status (first ∷ others) = 1
 
-unfoldable pub report_ending : List Authenticator → Ending
-report_ending conflicts = record { status = report_status conflicts; text = report_text conflicts }
+unfoldable pub report_ending : Report → Ending
+report_ending report = record { status = report_status (claims_of report); text = report_text report }
 
 unfoldable pub key_ending : Key → Ending
 key_ending key = record { status = 0; text = line (codes "root" ∷ encode_lower (key_root key) ∷ []) }
@@ -111,8 +120,8 @@ unfoldable pub promise_ending : PromiseFile → Ending
 promise_ending promise = record { status = 0; text = file_text promise.file }
 
 -- the report, where no fact refuses the audit
-abbrev pub concluded : Result (List Authenticator) Fact → Work Ending
-concluded (Ok conflicts) = Done (report_ending conflicts)
+abbrev pub concluded : Result Report Fact → Work Ending
+concluded (Ok report) = Done (report_ending report)
 concluded (Err fact) = Refuse (Refused fact)
 
 abbrev pub usage_ending : Ending
@@ -148,7 +157,8 @@ check_plan q = do
   room ← want
   Done (promise_ending promise)
 
--- The conflicts of an answer, or the first thing that refuses them. No file is asked for after one that is refused.
+-- The report on an answer, by one promise file, or the first thing that refuses it. No file is asked for after one that is
+-- refused.
 unfoldable pub audit_plan : AuditRequest → Work Ending
 audit_plan q = do
   promise ← promise_plan q.promise
@@ -156,7 +166,7 @@ audit_plan q = do
   answer ← well_formed AnswerInput (answer_of answer_bytes)
   auths_bytes ← load AuthsInput q.auths
   auths ← well_formed AuthsInput (auths_of auths_bytes)
-  Room (concluded (outcome q.root promise.says.network answer q.period auths))
+  Room (concluded (outcome q.root (audited_by promise ∷ []) answer q.period auths))
 
 -- the key that is asked for, by the seed file
 unfoldable pub key_plan : KeygenRequest → Work Key

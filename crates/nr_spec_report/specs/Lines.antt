@@ -2,7 +2,7 @@
 use Rattle.std.specs.Prelude.{ℕ, [], ◌∷◌, ◌++◌, List, codes}
 use Rattle.std.specs.List.{flat_map}
 use Rattle.std.specs.Fmt.{decimal}
-use Rattle.nr_spec_history.specs.Report.{conflict_line, line}
+use Rattle.nr_spec_history.specs.Lines.{conflict_line, line}
 use Rattle.nr_spec_counts.specs.declared.cause.Cause.{Cause}
 use Rattle.nr_spec_counts.specs.declared.cause.Cause.TheVariants as causes
 use Rattle.nr_spec_report.specs.Wrong.{WrongEntry}
