@@ -3,6 +3,8 @@
 ghost use Rattle.std.specs.Prelude.{◌≡◌, ◌++◌, ◌∷◌, [], ◌<◌, ◌^◌, ◌+◌, ℕ, List, IfOk, OnOk, None, Option, length, map, slice_index, if◌then◌else◌};
 ghost use Rattle.nr_chain.specs.Views.{entry_of};
 ghost use Rattle.nr_spec_log.specs.Chain.{LogEntry};
+ghost use Rattle.nr_spec_routes.specs.Keys.{Row};
+ghost use Rattle.nr_spec_routes.specs.Rows.{rows_after};
 ghost use Rattle.nr_spec_counts.specs.Tallies.{Numbers, Tally};
 ghost use Rattle.nr_spec_history.specs.Conflicts.{Period as SpecPeriod};
 ghost use Rattle.nr_spec_counts.specs.Causes.{cause_of};
@@ -19,6 +21,7 @@ use nr_discipline::{Cause, Counts, FileNumbers, allowed};
 use nr_evidence::Period;
 use nr_tables::{State, Touched};
 use std::alloc::Global;
+use std::mem;
 
 /// A wrong entry: its number and its cause.
 #[derive(Clone, Copy, Debug)]
@@ -75,6 +78,21 @@ fn add(wrong: &mut Vec<WrongEntry>, seq: u64, cause: Option<Cause>) -> Result<()
     }
 }
 
+// The routes after one entry more. After `Memory` they are gone.
+fn advance(
+    alloc: Global,
+    state: &mut State,
+    touched: &mut Touched,
+    entry: &Entry<'_>,
+) -> Result<(), Memory>
+    ensures { OnOk result ((base : List Row) (past : List LogEntry) → state.old ≡ rows_after base past
+        → state.new ≡ rows_after base (past ++ entry_of entry.now ∷ [])) }
+{
+    let before = mem::replace(state, State::new(alloc));
+    *state = before.step(entry, touched)?;
+    Ok(())
+}
+
 impl Checked {
     /// Before the first entry of a log.
     pub fn new(alloc: Global) -> Checked
@@ -89,37 +107,27 @@ impl Checked {
         }
     }
 
-    /// One entry more, which is checked and then applied. After `Memory` all is gone.
+    /// One entry more, which is checked and then applied. After `Memory` the routes are gone.
     pub fn take(
-        self,
+        &mut self,
+        alloc: Global,
         period: &Period,
         files: &[FileNumbers],
         seq: u64,
         entry: &Entry<'_>,
-    ) -> Result<Checked, Memory>
-        requires sends { (n : ℕ) → n < 256 → slice_index self.counts.sends n + 1 < 2 ^ 64 }
-        requires commits { self.counts.commits + 1 < 2 ^ 64 }
-        ensures { IfOk result (λ new. (base : Base) (first : ℕ) (past : List LogEntry) → seq ≡ first + length past
-            → Follows (map numbers_of files.now) base (period_of period.now) first past self
+    ) -> Result<(), Memory>
+        requires sends { (n : ℕ) → n < 256 → slice_index self.old.counts.sends n + 1 < 2 ^ 64 }
+        requires commits { self.old.counts.commits + 1 < 2 ^ 64 }
+        ensures { OnOk result ((base : Base) (first : ℕ) (past : List LogEntry) → seq ≡ first + length past
+            → Follows (map numbers_of files.now) base (period_of period.now) first past self.old
             → Follows (map numbers_of files.now) base (period_of period.now)
-            first (past ++ entry_of entry.now ∷ []) new) }
+            first (past ++ entry_of entry.now ∷ []) self.new) }
     {
-        let Checked {
-            state,
-            mut counts,
-            mut touched,
-            mut wrong,
-        } = self;
-        let cause = cause_within(period, files, seq, &state, &counts, entry);
-        add(&mut wrong, seq, cause)?;
-        let state = state.step(entry, &mut touched)?;
-        counts.step(entry);
-        Ok(Checked {
-            state,
-            counts,
-            touched,
-            wrong,
-        })
+        let cause = cause_within(period, files, seq, &self.state, &self.counts, entry);
+        add(&mut self.wrong, seq, cause)?;
+        advance(alloc, &mut self.state, &mut self.touched, entry)?;
+        self.counts.step(entry);
+        Ok(())
     }
 
     /// The wrong entries, by their numbers.

@@ -1,6 +1,6 @@
 //! One walk over the entries of an answer.
 
-ghost use Rattle.std.specs.Prelude.{◌≡◌, ◌∷◌, [], ◌<◌, ◌^◌, ◌+◌, ℕ, List, IfOk, length, map, slice_index};
+ghost use Rattle.std.specs.Prelude.{◌≡◌, ◌∷◌, [], ◌<◌, ◌^◌, ◌+◌, ℕ, List, IfOk, OnOk, length, map, slice_index};
 ghost use Rattle.nr_chain.specs.Views.{entry_of};
 ghost use Rattle.nr_spec_log.specs.Answer.{AnswerFile};
 ghost use Rattle.nr_spec_log.specs.Authenticator.{Authenticator};
@@ -46,34 +46,26 @@ impl Walked {
         })
     }
 
-    // One entry more: it is hashed and linked, checked and applied. After `Memory` all is gone.
+    // One entry more: it is hashed and linked, checked and applied. After `Memory` the routes are gone.
     fn take(
-        self,
+        &mut self,
+        alloc: Global,
         period: &Period,
         files: &[FileNumbers],
         entry: &Entry<'_>,
-    ) -> Result<Walked, Memory>
-        requires number { self.links.walk.seq < 2 ^ 63 }
-        requires sends { (n : ℕ) → n < 256 → slice_index self.checked.counts.sends n + 1 < 2 ^ 64 }
-        requires commits { self.checked.counts.commits + 1 < 2 ^ 64 }
-        ensures { IfOk result (λ new. (answer : AnswerFile) (auths : List Authenticator) (rest : List LogEntry)
-            → Walks (map numbers_of files.now) (period_of period.now) answer auths (entry_of entry.now ∷ rest) self
-            → Walks (map numbers_of files.now) (period_of period.now) answer auths rest new) }
+    ) -> Result<(), Memory>
+        requires number { self.old.links.walk.seq < 2 ^ 63 }
+        requires sends { (n : ℕ) → n < 256 → slice_index self.old.checked.counts.sends n + 1 < 2 ^ 64 }
+        requires commits { self.old.checked.counts.commits + 1 < 2 ^ 64 }
+        ensures { OnOk result ((answer : AnswerFile) (auths : List Authenticator) (rest : List LogEntry)
+            → Walks (map numbers_of files.now) (period_of period.now) answer auths (entry_of entry.now ∷ rest) self.old
+            → Walks (map numbers_of files.now) (period_of period.now) answer auths rest self.new) }
     {
-        let Walked {
-            mut links,
-            checked,
-            mut force,
-        } = self;
-        let seq = links.walk.next_seq();
-        links.take(entry)?;
-        force.take(period, files, entry);
-        let checked = checked.take(period, files, seq, entry)?;
-        Ok(Walked {
-            links,
-            checked,
-            force,
-        })
+        let seq = self.links.walk.next_seq();
+        self.links.take(entry)?;
+        self.force.take(period, files, entry);
+        self.checked.take(alloc, period, files, seq, entry)?;
+        Ok(())
     }
 }
 
@@ -92,7 +84,7 @@ pub fn walk(
 {
     let mut walked = Walked::new(alloc, answer, auths)?;
     for entry in answer.entries() {
-        walked = walked.take(period, files, &entry)?;
+        walked.take(alloc, period, files, &entry)?;
     }
     Ok(walked)
 }

@@ -10,9 +10,9 @@ use Rattle.nr_audit.proofs.walk.Walked.take.Goals as goal
 
 pub returns : goal.returns
 returns c = λ answer auths rest.
-    walked_more (map numbers_of c.args.files.now) (period_of c.args.period.now) answer auths (entry_of c.args.entry.now) rest c.args.self
-    (record { links = c.take.new.self; checked = c.in_ok-checked.checked; force = c.take-2.new.self })
+    walked_more (map numbers_of c.args.files.now) (period_of c.args.period.now) answer auths (entry_of c.args.entry.now) rest c.args.self.now
+    (record { links = c.take.new.self; checked = c.take-3.new.self; force = c.take-2.new.self })
     c.in_ok-take.ensures.number
     (c.in_ok-take.ensures.linked auths (answer_links answer) (answer_value answer) rest)
-    (λ past number. c.in_ok-checked.ensures nothing_before answer.first past (c.next_seq-seq.ensures ∙ number))
+    (λ past number. c.in_ok-take-2.ensures nothing_before answer.first past (c.next_seq-seq.ensures ∙ number))
     (c.take-2.ensures nothing_before)
