@@ -1,8 +1,8 @@
 """Logs that are real in kind: a day of a network, generated from a number, or one with many mistakes in it.
 
-The network has 8 neighbours and sends and receives UPDATEs of routes with the attributes that such routes have, each of one
-prefix. It hands a neighbour a COMMIT within a minute of each first message, takes its ACKs, and writes a CHECKPOINT every
-six hours. All of it is deterministic: the same arguments give the same bytes.
+The network has 8 neighbours and sends and receives UPDATEs of routes with the attributes that such routes have, each of
+one prefix. It hands a neighbour a COMMIT within a minute of each first message, takes its ACKs, and writes a CHECKPOINT
+every six hours. All of it is deterministic: the same arguments give the same bytes.
 """
 
 import random
@@ -41,7 +41,8 @@ def block(dice, neighbour):
         parts.append(attribute(0x80, 4, struct.pack(">I", dice.randrange(1000))))
     some = dice.randrange(4)
     if some:
-        parts.append(attribute(0xC0, 8, struct.pack(">%dI" % some, *(65000 << 16 | dice.randrange(300) for _ in range(some)))))
+        communities = (65000 << 16 | dice.randrange(300) for _ in range(some))
+        parts.append(attribute(0xC0, 8, struct.pack(">%dI" % some, *communities)))
     return b"".join(parts)
 
 
@@ -125,7 +126,7 @@ def day(number, messages, standing):
     dice.shuffle(keys)
     times = sorted(dice.randrange(SECOND, DAY) for _ in range(messages))
     for number, time in enumerate(times):
-        # Each route is announced once at first; then routes change, and a sixth of what is said of them is that they go.
+        # Each route is announced once at first; then routes change, and a sixth of what is said is that one goes.
         address, bits, kind, neighbour = keys[number] if number < len(keys) else dice.choice(keys)
         named = prefix_bytes(address, bits)
         if number >= len(keys) and dice.random() < 0.17:
@@ -161,7 +162,8 @@ def broken(number, count):
             named = prefix_bytes(dice.choice(addresses), dice.choice((8, 16)))
             raw = dice.choice((
                 update(named, b"", b""), update(b"", block(dice, 0), named), update(b"", block(dice, 1), named * 2),
-                update(named, block(dice, 2), named), update(b"", block(dice, 2)[4:], named), update(named, b"", b"")[:-1],
+                update(named, block(dice, 2), named), update(b"", block(dice, 2)[4:], named),
+                update(named, b"", b"")[:-1],
                 b"\xff" * 16 + b"\0\x13\4", b"\xff" * 16 + b"\0\x14\4\0", b"\xff" * 16 + b"\0\x15\3\6\2"))
             add(kind, struct.pack(">HB", neighbour, dice.choice((0, 1, 1, 1, 1, 1, 1, 1, 2))) + raw)
         elif kind == 3:

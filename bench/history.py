@@ -1,7 +1,7 @@
 """Which entries of a log are wrong and why, computed apart from the program.
 
-This is written from docs/formats.md and docs/causes.md, and shares nothing with the crates: expected values of tests and
-benchmarks come from it. It is slow, and keeps every route in one dictionary.
+This is written from docs/formats.md and docs/causes.md, and shares nothing with the crates: expected values of tests
+and benchmarks come from it. It is slow, and keeps every route in one dictionary.
 """
 
 import struct
@@ -84,8 +84,8 @@ def part(data, at):
 
 
 def message(as4, raw):
-    """What a message does to the routes of its direction: `keeps`, `empties`, or what an UPDATE withdraws, its attribute block
-    and what it announces."""
+    """What a message does to the routes of its direction: `keeps`, `empties`, or what an UPDATE withdraws, its attribute
+    block and what it announces."""
     wants(len(raw) >= 19 and raw[:16] == b"\xff" * 16)
     size, kind = struct.unpack(">HB", raw[16:19])
     wants(size == len(raw) and kind in (1, 2, 3, 4, 5))
@@ -162,8 +162,8 @@ class Known:
         return next(waits, None)
 
     def cause(self, files, seq, time, kind, data):
-        """Why entry `seq` is wrong, by the word that the program prints, or None. `files` are the numbers of the audited promise
-        files, each as its digest, its neighbours and its commit delay."""
+        """Why entry `seq` is wrong, by the word that the program prints, or None. `files` are the numbers of the audited
+        promise files, each as its digest, its neighbours and its commit delay."""
         fields = content(kind, data)
         if fields is None:
             return "content"

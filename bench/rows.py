@@ -1,6 +1,6 @@
 #!/usr/bin/env python3
-"""Prints the logs of the program's rows on wrong entries, for crates/netreview/src/wrong_tests.rt: each entry in hexadecimal
-digits, the chain value of the last, and the lines that an audit over a period prints."""
+"""Prints the logs of the program's rows on wrong entries, for crates/netreview/src/wrong_tests.rt: each entry in
+hexadecimal digits, the chain value of the last, and the lines that an audit over a period prints."""
 
 import struct
 

@@ -1,10 +1,10 @@
 #!/usr/bin/env python3
 """Writes the files of this folder and of the program's stored run anew, from the formats alone, and prints roots.
 
-The network AS 64500 answers with a log of five entries, kept under the file `promises`. A neighbour holds two authenticators
-that the network signed: one of entry 3 as it stands in the answer, and one of another entry 3, with another message. The
-network kept two logs, and the second authenticator shows it. Entry 4 is a message to neighbour 1, which the file doesn't
-declare.
+The network AS 64500 answers with a log of five entries, kept under the file `promises`. A neighbour holds two
+authenticators that the network signed: one of entry 3 as it stands in the answer, and one of another entry 3, with
+another message. The network kept two logs, and the second authenticator shows it. Entry 4 is a message to neighbour 1,
+which the file doesn't declare.
 
 Everything is signed by keys of one seed that is no secret: the bytes 0 to 31. A real seed comes from the system's
 random source (docs/keys.md).
@@ -37,7 +37,7 @@ SECOND = 1_000_000
 
 
 def sent(neighbour, last_byte):
-    """A SEND to a neighbour, of which 0 is the transit, of a message that withdraws 10.x.0.0/16, where x is this byte."""
+    """A SEND to a neighbour, 0 being the transit, of a message that withdraws 10.x.0.0/16, where x is this byte."""
     message = b"\xff" * 16 + struct.pack(">HBH", 26, 2, 3) + bytes([16, 10, last_byte]) + b"\0\0"
     return struct.pack(">HB", neighbour, 1) + message
 
