@@ -57,8 +57,8 @@ impl OpenRuns {
         }
     }
 
-    /// A promise is bad or isn't for a prefix, at a moment that begins at this time. Where it isn't observed it keeps its
-    /// last value. `Memory` leaves the runs as they were.
+    /// A promise is bad or isn't for a prefix, at a moment that begins at this time. Where it isn't observed it keeps
+    /// its last value. `Memory` leaves the runs as they were.
     pub fn observe(
         &mut self,
         file: u16,

@@ -47,9 +47,10 @@ lasts (Some promise) span = nat_le (promise.grace * 1000000) (span.end - span.be
 abbrev pub is_broken : List PromiseFile → Key → Span → Bool
 is_broken files key span = lasts (promise_at files key) span
 
--- The broken runs over these moments, the last of which lasts until a time: by file, promise and prefix, and of each key the
--- broken ones of its runs in the order in which they begin.
-pub record AreBroken (files : List PromiseFile) (truth : Truth) (marks : List Mark) (to : ℕ) (found : List Run) : Type 0 where
+-- The broken runs over these moments, the last of which lasts until a time: by file, promise and prefix, and of each
+-- key the broken ones of its runs in the order in which they begin.
+pub record AreBroken (files : List PromiseFile) (truth : Truth) (marks : List Mark) (to : ℕ) (found : List Run)
+    : Type 0 where
   pub ordered : IsSortedByKey (λ (r : Run). r.key) key_cmp found
   pub each : (key : Key) → spans_of key found
       ≡ filter (is_broken files key) (runs_of to (map (moment_at files truth key) marks))

@@ -34,8 +34,8 @@ same_file None None = true
 same_file (Some n) (Some m) = n == m
 same_file _ _ = false
 
--- the number of prefixes that an entry touches, and, where the moment that it begins belongs to another file than the one before
--- it, of those that stand then and those that promises name
+-- the number of prefixes that an entry touches, and, where the moment that it begins belongs to another file than the
+-- one before it, of those that stand then and those that promises name
 abbrev pub asked_next : List PromiseFile → Base → Option (List ℕ) → List LogEntry → LogEntry → ℕ
 asked_next files base first past e =
     length (touched_after base.rows past e)

@@ -34,8 +34,8 @@ abbrev pub force_or : Option Numbers → Option (List ℕ) → Option (List ℕ)
 force_or None first = first
 force_or (Some numbers) first = Some numbers.digest
 
--- The digest of the promise that is in force after entries. Where none is, it is that of the first PROMISE that follows: no
--- PROMISE stands before it then, so that it is the first of all.
+-- The digest of the promise that is in force after entries. Where none is, it is that of the first PROMISE that
+-- follows: no PROMISE stands before it then, so that it is the first of all.
 abbrev pub ruling : Base → Option (List ℕ) → List LogEntry → Option (List ℕ)
 ruling base first past = force_or (tally_after base.tally past).in_force first
 

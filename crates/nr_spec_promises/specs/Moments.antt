@@ -10,8 +10,8 @@ use Rattle.nr_spec_typing.specs.Meaning.{Scene}
 use Rattle.nr_spec_report.specs.Wrong.{Base, is_within}
 use Rattle.nr_spec_promises.specs.Files.{PromiseFile, file_after, first_promised}
 
--- what a state shows: of a prefix the scene, and whether it stands; and the number of the promise file to which it belongs,
--- where it belongs to one
+-- what a state shows: of a prefix the scene, and whether it stands; and the number of the promise file to which it
+-- belongs, where it belongs to one
 pub record View : Type 0 where
   pub scene : Cidr → Scene
   pub stands : Cidr → Bool
@@ -57,5 +57,8 @@ entries_before period entries = filter (λ (e : LogEntry). nat_lt e.time period.
 -- The moments: the first begins with the period, and is the state after all entries with a time before it.
 abbrev pub moments : List PromiseFile → Base → Period → List LogEntry → List Mark
 moments files base period entries =
-    record { begin = period.from; view = view_after files base (first_promised entries) (entries_before period entries) }
+    record {
+      begin = period.from;
+      view = view_after files base (first_promised entries) (entries_before period entries);
+    }
     ∷ marks_after files base (first_promised entries) period [] entries

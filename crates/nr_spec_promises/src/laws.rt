@@ -13,10 +13,11 @@ ghost use Rattle.nr_spec_promises.specs.Files.{PromiseFile, first_promised};
 ghost use Rattle.nr_spec_promises.specs.Moments.{Mark};
 ghost use Rattle.nr_spec_promises.specs.Broken.{AreBroken, is_broken, moment_at};
 
-/// A broken run is told of exactly for a promise, a prefix and a longest row of neighbouring moments at which the promise is
-/// bad for the prefix, where that row lasts at least as long as the grace.
+/// A broken run is told of exactly for a promise, a prefix and a longest row of neighbouring moments at which the
+/// promise is bad for the prefix, where that row lasts at least as long as the grace.
 pub fn broken_runs_are_long_rows()
-    ensures { (files : List PromiseFile) (truth : Truth) (marks : List Mark) (to : ℕ) (found : List Run) (key : Key) (s : Span)
+    ensures { (files : List PromiseFile) (truth : Truth) (marks : List Mark) (to : ℕ) (found : List Run) (key : Key)
+        (s : Span)
         → AreBroken files truth marks to found → IsAmong s (spans_of key found)
         ↔ (IsLongestRow to (map (moment_at files truth key) marks) s × (is_broken files key s ≡ true)) }
 {}

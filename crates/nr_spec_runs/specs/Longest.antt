@@ -19,8 +19,9 @@ abbrev pub AreBad : List Moment → Type 0
 AreBad [] = Unit {0}
 AreBad (m ∷ moments) = (m.bad ≡ true) × AreBad moments
 
--- The span of a row of bad moments, beside which no other bad moment stands. The first is whether the moment before all
--- of them is bad. It begins where its first moment begins, and ends where the moment after its last one does, or at the close.
+-- The span of a row of bad moments, beside which no other bad moment stands. The first is whether the moment before
+-- all of them is bad. It begins where its first moment begins, and ends where the moment after its last one does, or
+-- at the close.
 pub record IsRowAfter (bad_before : Bool) (close : ℕ) (moments : List Moment) (s : Span) : Type 0 where
   pub before : List Moment
   pub first : Moment

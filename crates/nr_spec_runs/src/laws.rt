@@ -10,8 +10,8 @@ pub fn runs_are_longest_rows()
         → IsAmong s (runs_of close moments) ↔ IsLongestRow close moments s }
 {}
 
-/// A bad moment more goes on with the run of a bad one, and else begins a run, which is open until the close. A moment that
-/// isn't bad ends the run of a bad one where it begins.
+/// A bad moment more goes on with the run of a bad one, and else begins a run, which is open until the close. A
+/// moment that isn't bad ends the run of a bad one where it begins.
 #[tactic(auto, using(crate::proofs::Rows::goes_on, crate::proofs::Rows::begins, crate::proofs::Rows::ends))]
 pub fn one_moment_more()
     ensures goes_on { (close : ℕ) (moments : List Moment) (m : Moment) → m.bad ≡ true → ends_bad moments ≡ true

@@ -1,5 +1,5 @@
--- Whether a promise is true in a scene: whether its formula holds there. Promise files are numbered from 0 in the order in
--- which they are given, and so are the promises of each.
+-- Whether a promise is true in a scene: whether its formula holds there. Promise files are numbered from 0 in the
+-- order in which they are given, and so are the promises of each.
 use Rattle.std.specs.Prelude.{ℕ, Bool, true, false, List, Option, None, Some, length, nat_lt, slice_get}
 use Rattle.nr_spec_typing.specs.declared.text.Neighbour.{Neighbour}
 use Rattle.nr_spec_typing.specs.declared.text.Promise.{Promise}

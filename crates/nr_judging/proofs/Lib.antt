@@ -1,0 +1,14 @@
+pub mod Named
+pub mod Files
+pub mod Gathering
+pub mod Bridge
+pub mod Told
+pub mod Steady
+pub mod Stages
+pub mod Count
+pub mod Since
+pub mod Adding
+pub mod Growing
+pub mod Marks
+pub mod Kept
+pub mod Walking
