@@ -105,7 +105,7 @@ closed_room name old new t told runs =
     let rests = firm_rests Refusal name 0 (0 ∷ []) old new t told runs in
     record { file = written 0 (0 ∷ []) (bytes_of (t.holds name)); rests = rests; some = omega arith; closed = λ is. cc }
 
-sized : (h : Option (List ℕ)) → unwrap_or (option_map length h) 0 ≡ length (bytes_of h)
+pub sized : (h : Option (List ℕ)) → unwrap_or (option_map length h) 0 ≡ length (bytes_of h)
 sized None = refl
 sized (Some bytes) = refl
 
