@@ -1,0 +1,5 @@
+use Rattle.nr_rows_judging.proofs.formulas.is_kept.Given as goal
+
+-- a ledger of its own
+abbrev pub ghosts-broken : goal.ghosts-broken
+ghosts-broken g a = record { name = a.blank.name; parts = a.blank.parts }
