@@ -1,4 +1,5 @@
-//! Rows of `audit` over logs with wrong entries. `bench/rows.py` computes the logs and the lines apart from the program.
+//! Rows of `audit` over logs with wrong entries. `bench/rows.py` computes the logs and the lines apart from the
+//! program.
 
 use crate::tests::{audit_words, digest_of, gives, put_auth, row_files};
 use nr_bytes::{put_bytes, put_u8, put_u32, put_u64};
@@ -20,8 +21,8 @@ neighbour p as 64501 at 192.0.2.1;
 neighbour q as 64502 at 192.0.2.2;
 ";
 
-// An entry for each cause. The promise comes third, and says one neighbour more than its file. The message of entry 2 waits
-// for a minute at entry 8, and for longer at entry 9; entry 10 is the COMMIT that is due.
+// An entry for each cause. The promise comes third, and says one neighbour more than its file. The message of entry 2
+// waits for a minute at entry 8, and for longer at entry 9; entry 10 is the COMMIT that is due.
 const EACH_CAUSE: Log = Log {
     entries: &[
         "0000000000000000050006ffff00000000",

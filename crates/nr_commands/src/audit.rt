@@ -1,4 +1,5 @@
-//! The command `audit`: what an answer shows of a network, and where it contradicts the authenticators that were handed in.
+//! The command `audit`: what an answer shows of a network, and where it contradicts the authenticators that were handed
+//! in.
 
 ghost use Rattle.std.specs.Prelude.{◌≡◌, ◌∷◌, []};
 ghost use Rattle.nr_spec_report.specs.Outcome.{outcome};

@@ -9,8 +9,8 @@ use nr_chain::Digest;
 use nr_rule_syntax::File;
 use nr_rule_types::Typed;
 
-/// A promise file: the SHA-256 of its text, the tree of that, whose formulas nest at most 64 levels, and what it says with
-/// its names resolved.
+/// A promise file: the SHA-256 of its text, the tree of that, whose formulas nest at most 64 levels, and what it says
+/// with its names resolved.
 #[derive(Drop)]
 pub struct PromiseFile {
     pub digest: Digest,

@@ -108,7 +108,8 @@ fn leaves_overdue(lowest: Option<u16>, content: &Content<'_>) -> bool
 }
 
 fn is_wrong_checkpoint(state: &State, counts: &Counts, content: &Content<'_>) -> bool
-    ensures { (t : Tally) → IsKeptOf t counts.now → result ≡ is_wrong_checkpoint t state.now (content_view content.now) }
+    ensures { (t : Tally) → IsKeptOf t counts.now
+        → result ≡ is_wrong_checkpoint t state.now (content_view content.now) }
 {
     match content {
         Content::Checkpoint { body } => body.0 != body_digest(state, counts).0,
@@ -126,7 +127,8 @@ pub fn allowed(
     seq: u64,
     entry: &Entry<'_>,
 ) -> Option<Cause>
-    ensures { (t : Tally) → IsKeptOf t counts.now → result ≡ cause_of (map numbers_of files.now) t state.now seq (entry_of entry.now) }
+    ensures { (t : Tally) → IsKeptOf t counts.now
+        → result ≡ cause_of (map numbers_of files.now) t state.now seq (entry_of entry.now) }
 {
     let content = nr_entry::read(entry.kind, entry.content);
     let Some(content) = content else {

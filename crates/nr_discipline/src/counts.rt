@@ -15,9 +15,9 @@ use nr_chain::Entry;
 use nr_entry::Content;
 use std::marker::Model;
 
-/// What is known after the entries of a log besides the routes that stand: for each neighbour how many messages were sent
-/// to it, how many of them it has acknowledged, and the time of the oldest message to or from it since the last COMMIT to
-/// it; how many COMMITs there are, the promise in force, and the time of the last entry.
+/// What is known after the entries of a log besides the routes that stand: for each neighbour how many messages were
+/// sent to it, how many of them it has acknowledged, and the time of the oldest message to or from it since the last
+/// COMMIT to it; how many COMMITs there are, the promise in force, and the time of the last entry.
 #[derive(Drop)]
 pub struct Counts {
     sends: [u64; 256],
@@ -76,7 +76,8 @@ impl Counts {
     fn count(&mut self, content: Option<Content<'_>>, time: u64)
         requires sends { (n : ℕ) → n < 256 → slice_index self.old.sends n + 1 < 2 ^ 64 }
         requires commits { self.old.commits + 1 < 2 ^ 64 }
-        ensures { (t : Tally) → IsKeptOf t self.old → IsKeptOf (counted t (option_map content_view content.entry) time) self.new }
+        ensures { (t : Tally) → IsKeptOf t self.old
+            → IsKeptOf (counted t (option_map content_view content.entry) time) self.new }
     {
         self.last_time = time;
         match content {

@@ -146,7 +146,8 @@ fn put_neighbour(
 
 #[tactic(auto, using(crate::proofs::Written::none_grow, crate::proofs::Written::one_grow, crate::proofs::Pieces::kept_piece))]
 fn put_neighbours(out: &mut Vec<u8>, counts: &Counts) -> Result<(), Memory>
-    ensures { (t : Tally) → IsKeptOf t counts.now → OnOk result (Grows out.old.items out.new.items (joined (tally_piece t) 256)) }
+    ensures { (t : Tally) → IsKeptOf t counts.now
+        → OnOk result (Grows out.old.items out.new.items (joined (tally_piece t) 256)) }
 {
     for n in 0..256 {
         put_neighbour(out, counts.sends(n), counts.acked(n), counts.oldest(n))?;
@@ -197,7 +198,8 @@ fn body(alloc: Global, state: &State, counts: &Counts) -> Result<Vec<u8>, Memory
 pub fn encode(alloc: Global, state: &State, counts: &Counts) -> Result<Vec<u8>, EncodeError>
     ensures body { (t : Tally) → IsKeptOf t counts.now → IfOk result (λ v. v.items ≡ checkpoint_body t state.now) }
     ensures bound { IfOk result (λ v. length v.items ≤ 536870912) }
-    ensures long { (t : Tally) → IsKeptOf t counts.now → IfErr result (λ e. SaysTooLong e (length (checkpoint_body t state.now))) }
+    ensures long { (t : Tally) → IsKeptOf t counts.now
+        → IfErr result (λ e. SaysTooLong e (length (checkpoint_body t state.now))) }
 {
     let body = body(alloc, state, counts)?;
     if body.len() > MOST {

@@ -10,7 +10,8 @@ pub const NEIGHBOURS: usize = 256;
 /// One more.
 pub fn add_one(sends: &mut [u64; 256], neighbour: u16)
     requires { (n : ℕ) → n < 256 → slice_index sends.old n + 1 < 2 ^ 64 }
-    ensures { (n : ℕ) → n < 256 → slice_index sends.new n ≡ slice_index sends.old n + (if neighbour == n then 1 else 0) }
+    ensures { (n : ℕ) → n < 256
+        → slice_index sends.new n ≡ slice_index sends.old n + (if neighbour == n then 1 else 0) }
 {
     let at = usize::from(neighbour);
     if at < NEIGHBOURS {
@@ -20,7 +21,8 @@ pub fn add_one(sends: &mut [u64; 256], neighbour: u16)
 
 /// Now this number.
 pub fn set(acked: &mut [u64; 256], neighbour: u16, upto: u64)
-    ensures { (n : ℕ) → n < 256 → slice_index acked.new n ≡ unwrap_or (if neighbour == n then Some upto else None) (slice_index acked.old n) }
+    ensures { (n : ℕ) → n < 256
+        → slice_index acked.new n ≡ unwrap_or (if neighbour == n then Some upto else None) (slice_index acked.old n) }
 {
     let at = usize::from(neighbour);
     if at < NEIGHBOURS {
@@ -30,7 +32,9 @@ pub fn set(acked: &mut [u64; 256], neighbour: u16, upto: u64)
 
 /// A time, where none stands there.
 pub fn begin(oldest: &mut [Option<u64>; 256], neighbour: u16, time: u64)
-    ensures { (n : ℕ) → n < 256 → slice_index_or oldest.new n None ≡ later_or (slice_index_or oldest.old n None) (if neighbour == n then Some time else None) }
+    ensures { (n : ℕ) → n < 256
+        → slice_index_or oldest.new n None
+        ≡ later_or (slice_index_or oldest.old n None) (if neighbour == n then Some time else None) }
 {
     let at = usize::from(neighbour);
     if at < NEIGHBOURS && oldest[at].is_none() {
@@ -40,7 +44,8 @@ pub fn begin(oldest: &mut [Option<u64>; 256], neighbour: u16, time: u64)
 
 /// No time any more.
 pub fn end(oldest: &mut [Option<u64>; 256], neighbour: u16)
-    ensures { (n : ℕ) → n < 256 → slice_index_or oldest.new n None ≡ (if neighbour == n then None else slice_index_or oldest.old n None) }
+    ensures { (n : ℕ) → n < 256
+        → slice_index_or oldest.new n None ≡ (if neighbour == n then None else slice_index_or oldest.old n None) }
 {
     let at = usize::from(neighbour);
     if at < NEIGHBOURS {

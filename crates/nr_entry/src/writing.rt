@@ -36,7 +36,8 @@ fn put_head(
     hash: &Digest,
     sig: &Digest,
 ) -> Result<(), Memory>
-    ensures { OnOk result (out.new.items ≡ out.old.items ++ (big_bytes 8 seq ++ (big_bytes 8 time ++ (hash.now.0 ++ sig.now.0)))) }
+    ensures { OnOk result (out.new.items ≡ out.old.items
+        ++ (big_bytes 8 seq ++ (big_bytes 8 time ++ (hash.now.0 ++ sig.now.0)))) }
 {
     put_u64(out, seq)?;
     put_u64(out, time)?;

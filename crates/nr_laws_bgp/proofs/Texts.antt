@@ -7,7 +7,8 @@ use Rattle.std.proofs.lemmas.Fmt.{decimal_digit, decimal_step}
 use Rattle.std.proofs.lemmas.Bool.{cases_lt, le-leb, leb-true, eqb-true, eqb-false, ne_eqb}
 use Rattle.std.proofs.lemmas.List.{take_at, drop_at, append-nil, take-append-drop}
 use Rattle.nr_spec_bgp.specs.Prefixes.{Cidr, IsCidr, masked}
-use Rattle.nr_spec_bgp.specs.PrefixText.{◌>>=◌, address_text, cidr_text, numeral, digits_len, number_in, behind, address_in, cidr_in}
+use Rattle.nr_spec_wire.specs.Optional.{◌>>=◌}
+use Rattle.nr_spec_bgp.specs.PrefixText.{address_text, cidr_text, numeral, digits_len, number_in, behind, address_in, cidr_in}
 
 -- ---- digits
 

@@ -16,7 +16,8 @@ pub fn rows_can_be_stated()
 /// From counts that a body can state, the counts after entries are such counts, where they have room for so many.
 #[tactic(auto, using(crate::proofs::TallyFits::tally_fits))]
 pub fn tallies_can_be_stated()
-    ensures { (base : Tally) (entries : List LogEntry) → IsTally base → AreStated entries → HasRoom base (length entries)
+    ensures { (base : Tally) (entries : List LogEntry) → IsTally base → AreStated entries
+        → HasRoom base (length entries)
         → IsTally (tally_after base entries) }
 {}
 

@@ -1,5 +1,5 @@
-//! The laws of what the body of a checkpoint can state: what is known after entries, from rows and counts that a body can
-//! state, can be stated too. The functions have no code: each is a theorem, which its contract states.
+//! The laws of what the body of a checkpoint can state: what is known after entries, from rows and counts that a body
+//! can state, can be stated too. The functions have no code: each is a theorem, which its contract states.
 #![tactic(auto)]
 
 mod bounds;

@@ -1,6 +1,6 @@
-//! The laws of crashes. Those over plans hold of every plan, and stand as lemmas in `proofs/`: what a crash leaves before
-//! and after a run, of one plan after another, under a name that a plan spares, and of bytes that are written and synced.
-//! Those of images stand here. The functions have no code: each is a theorem, which its contract states.
+//! The laws of crashes. Those over plans hold of every plan, and stand as lemmas in `proofs/`: what a crash leaves
+//! before and after a run, of one plan after another, under a name that a plan spares, and of bytes that are written
+//! and synced. Those of images stand here. The functions have no code: each is a theorem, which its contract states.
 #![tactic(auto)]
 
 mod images;

@@ -1,5 +1,5 @@
-//! The laws of the contents of entries: each content has one spelling under its kind, which is what its reading takes, and
-//! what an entry can hold. The functions have no code: each is a theorem, which its contract states.
+//! The laws of the contents of entries: each content has one spelling under its kind, which is what its reading takes,
+//! and what an entry can hold. The functions have no code: each is a theorem, which its contract states.
 #![tactic(auto)]
 
 mod contents;

@@ -1,6 +1,7 @@
 //! Laws of the meaning of promises, each the contract of a function with an empty body: what each construct of the
 //! language means, so that no two of them can be exchanged, and that what is well typed asks for nothing that is
-//! missing. They speak of the definitions alone, so that a reader sees what follows from these without reading any code.
+//! missing. They speak of the definitions alone, so that a reader sees what follows from these without reading any
+//! code.
 #![tactic(auto)]
 
 mod blocks;

@@ -119,8 +119,8 @@ no_address addr len small =
     (then_some (number_to 255 (decimal c)) _ c _ (part_read 255 c (omega arith) (omega arith))
     (none_then (number_to 255 text-d) _ (no_number 255 text-d (no_digits (decimal d) 47 (decimal len) refl))))))))
   where
-    none_then : {A B : Type 0} (r : Option A) (f : A → Option B) → r ≡ None → Rattle.nr_spec_rules.specs.Figures.◌>>=◌ r f ≡ None
-    none_then r f e = ap (λ q. Rattle.nr_spec_rules.specs.Figures.◌>>=◌ q f) e
+    none_then : {A B : Type 0} (r : Option A) (f : A → Option B) → r ≡ None → Rattle.nr_spec_wire.specs.Optional.◌>>=◌ r f ≡ None
+    none_then r f e = ap (λ q. Rattle.nr_spec_wire.specs.Optional.◌>>=◌ q f) e
 
 pub prefix_figure : (p : Cidr) → IsCidr p → IsFigure k.Prefix (cidr_text p)
 unfolding figure_kind number_of

@@ -9,7 +9,7 @@ use Rattle.nr_spec_bgp.specs.Prefixes.{Cidr, IsCidr}
 use Rattle.nr_spec_bgp.specs.PrefixText.{address_text, cidr_text}
 use Rattle.std.proofs.lemmas.Bool.{ltb-true}
 use Rattle.std.proofs.lemmas.List.{append-nil}
-use Rattle.nr_spec_rules.specs.Figures as figures
+use Rattle.nr_spec_wire.specs.Optional as optional
 use Rattle.nr_spec_rules.specs.Figures.{number_of, address_of, prefix_of, community_of, digest_of, number_to, cut}
 use Rattle.nr_rule_syntax.specs.Printing.{community_text}
 use Rattle.nr_rule_syntax.specs.Written.{is_short}
@@ -24,8 +24,8 @@ number_text_read n h =
     let small = short_of n h in
     number_again 4294967295 n (decimal n) (writes_decimal n (omega arith)) (omega arith)
 
-pub then_some : {A B : Type 0} (r : Option A) (f : A → Option B) (x : A) (y : Option B) → r ≡ Some x → f x ≡ y → figures.◌>>=◌ r f ≡ y
-then_some r f x y e g = ap (λ q. figures.◌>>=◌ q f) e ∙ g
+pub then_some : {A B : Type 0} (r : Option A) (f : A → Option B) (x : A) (y : Option B) → r ≡ Some x → f x ≡ y → optional.◌>>=◌ r f ≡ y
+then_some r f x y e g = ap (λ q. optional.◌>>=◌ q f) e ∙ g
 
 pub part_read : (most n : ℕ) → n ≤ most → n < 2 ^ 64 → number_to most (decimal n) ≡ Some n
 part_read most n h small = number_again most n (decimal n) (writes_decimal n small) h

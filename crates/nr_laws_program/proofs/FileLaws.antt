@@ -302,27 +302,27 @@ key_outcome : (q : KeygenRequest) (held : disk.Contents) (key : Key) → outcome
 unfolding followed_by plan_of keygen_plan save
 key_outcome q held key is = outcome_goes held (key_plan q) _ key is
 
-key_gives_halt : (q : KeygenRequest) (held : disk.Contents) (halt : Halt Refusal) → Gives (outcome held (key_plan q)) (Err halt) → Gives (outcome held (plan_of (Keygen q))) (Err halt)
+key_gives_halt : (q : KeygenRequest) (held : disk.Contents) (halt : Halt Refusal) → Gives (Err halt) (outcome held (key_plan q)) → Gives (Err halt) (outcome held (plan_of (Keygen q)))
 unfolding followed_by plan_of keygen_plan
 key_gives_halt q held (Refused refusal) is = outcome_stops held (key_plan q) _ refusal is
 key_gives_halt q held (Faulted fault) is = tt
 
-stopped_gives : (decided : Result Ending Refusal) (halt : Halt Refusal) → (halt ≡ Faulted disk.WriteFault) ⊎ (halt ≡ Faulted disk.Memory) → Gives decided (Err halt)
+stopped_gives : (decided : Result Ending Refusal) (halt : Halt Refusal) → (halt ≡ Faulted disk.WriteFault) ⊎ (halt ≡ Faulted disk.Memory) → Gives (Err halt) decided
 stopped_gives decided (Refused refusal) (inl is) = absurd cc
 stopped_gives decided (Refused refusal) (inr is) = absurd cc
 stopped_gives decided (Faulted fault) by = tt
 
-found_no_room : (decided : Result Ending Refusal) (result : Result Ending (Halt Refusal)) → result ≡ Err (Faulted disk.Memory) → Gives decided result
+found_no_room : (decided : Result Ending Refusal) (result : Result Ending (Halt Refusal)) → result ≡ Err (Faulted disk.Memory) → Gives result decided
 found_no_room decided result is = rw is tt
 
-done_gives : (decided : Result Ending Refusal) (result : Result Ending (Halt Refusal)) (ending : Ending) → result ≡ Ok ending → decided ≡ Ok ending → Gives decided result
+done_gives : (decided : Result Ending Refusal) (result : Result Ending (Halt Refusal)) (ending : Ending) → result ≡ Ok ending → decided ≡ Ok ending → Gives result decided
 done_gives decided result ending is given = rw is given
 
-halted_gives : (decided : Result Ending Refusal) (result : Result Ending (Halt Refusal)) (halt : Halt Refusal) → result ≡ Err halt → Gives decided (Err halt) → Gives decided result
+halted_gives : (decided : Result Ending Refusal) (result : Result Ending (Halt Refusal)) (halt : Halt Refusal) → result ≡ Err halt → Gives (Err halt) decided → Gives result decided
 halted_gives decided result halt is given = rw is given
 
 key_gives : (q : KeygenRequest) (held : disk.Contents) (old new : disk.Disk) (result : Result Ending (Halt Refusal)) → option_map (λ t. t.holds) old.told ≡ Some held → Runs (plan_of (Keygen q)) old new result
-    → Gives (outcome held (plan_of (Keygen q))) result
+    → Gives result (outcome held (plan_of (Keygen q)))
 unfolding Runs followed_by plan_of keygen_plan
 key_gives q held old new result told runs =
     ⊎_elim
@@ -338,14 +338,14 @@ key_gives q held old new result told runs =
     (taken_apart (key_plan q) _ old new result runs)
 
 request_gives : (request : Request) (held : disk.Contents) (old new : disk.Disk) (result : Result Ending (Halt Refusal)) → option_map (λ t. t.holds) old.told ≡ Some held → Runs (Room (plan_of request)) old new result
-    → Gives (outcome held (plan_of request)) result
+    → Gives result (outcome held (plan_of request))
 unfolding Runs
 request_gives (Audit q) held old new result told runs = gives_outcome (Room (plan_of (Audit q))) held old new result (reads_in (Some (Audit q)) refl) told runs
 request_gives (Check q) held old new result told runs = gives_outcome (Room (plan_of (Check q))) held old new result (reads_in (Some (Check q)) refl) told runs
 request_gives (Keygen q) held old new result told (inl (same, is)) = rw is tt
 request_gives (Keygen q) held old new result told (inr runs) = key_gives q held old new result told runs
 
-ends_by : (plan : Work Ending) (held : disk.Contents) (result : Result Ending (Halt Refusal)) (e : Ending) → Gives (outcome held plan) result → Concludes result e → EndsBy held plan result e
+ends_by : (plan : Work Ending) (held : disk.Contents) (result : Result Ending (Halt Refusal)) (e : Ending) → Gives result (outcome held plan) → Concludes result e → EndsBy held plan result e
 ends_by plan held (Ok ending) e gives c = inl (c ∙ sym (ap ended gives))
 ends_by plan held (Err (Refused refusal)) e gives (inl is) = inl (is ∙ sym (ap ended gives))
 ends_by plan held (Err (Refused refusal)) e gives (inr is) = inr (inl is)

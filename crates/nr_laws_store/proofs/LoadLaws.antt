@@ -19,7 +19,7 @@ use Rattle.nr_laws_store.proofs.GateLaws.{limit_ok, limit_stops}
 
 -- How a load ended, of a file of these bytes: what it gave, and, where it read the file, that this rests.
 pub record Loads (name file : List ℕ) (new : Disk) (result : Result (Option LogFile) (Halt Refusal)) : Type 0 where
-  pub gives : Gives (loading file) result
+  pub gives : Gives result (loading file)
   pub rests : (given : Option LogFile) → result ≡ Ok given → Rests new name file
 
 -- ---- once the file was read
@@ -30,7 +30,7 @@ loading_within file within = let h = le-ltb most_log (length file) within in rw 
 loading_past : (file : List ℕ) → most_log < length file → loading file ≡ Err (Limit (length file))
 loading_past file past = let h = lt-ltb most_log (length file) past in rw h refl
 
-understood_gives : (read : Result (Option LogFile) ℕ) (old new : Disk) (result : Result (Option LogFile) (Halt Refusal)) → Runs (understood read) old new result → (new ≡ old) × Gives (refused_at read) result
+understood_gives : (read : Result (Option LogFile) ℕ) (old new : Disk) (result : Result (Option LogFile) (Halt Refusal)) → Runs (understood read) old new result → (new ≡ old) × Gives result (refused_at read)
 unfolding Runs
 understood_gives (Ok value) old new result (same, is) = (same, rw is refl)
 understood_gives (Err place) old new result (same, is) = (same, rw is refl)
@@ -55,7 +55,7 @@ read_loads name size old new t result told at within (mid, Ok x, syncs, (last, O
     let gave = understood_gives (log_of given) last new result runs in
     let is : loading file ≡ refused_at (log_of given) = loading_within file (omega (arith, at, within)) ∙ ap (λ (f : List ℕ). refused_at (log_of f)) (sym whole) in
     record {
-      gives = subst (λ (r : Result (Option LogFile) Refusal). Gives r result) (sym is) gave.1;
+      gives = subst (λ (r : Result (Option LogFile) Refusal). Gives result r) (sym is) gave.1;
       rests = λ value e. subst (λ (d : Disk). Rests d name file) (sym gave.0) there;
     }
 
@@ -100,12 +100,12 @@ load_found name size old mid new t result told at kept runs =
     let size_is : size ≡ size_of u.now name = found_size (t.holds name) size at ∙ ap (λ (h : Option (List ℕ)). length (bytes_of h)) (sym u.holds) in
     subst (λ (h : Option (List ℕ)). Loads name (bytes_of h) new result) u.holds (sized_loads name size mid new u.now result u.told size_is runs)
 
-absent_gives : (name : List ℕ) (mid new : Disk) (h : Option (List ℕ)) (result : Result (Option LogFile) (Halt Refusal)) → h ≡ None → Runs (found_plan name None) mid new result → (new ≡ mid) × Gives (loading (bytes_of h)) result
+absent_gives : (name : List ℕ) (mid new : Disk) (h : Option (List ℕ)) (result : Result (Option LogFile) (Halt Refusal)) → h ≡ None → Runs (found_plan name None) mid new result → (new ≡ mid) × Gives result (loading (bytes_of h))
 unfolding found_plan Runs log_of
 absent_gives name mid new h result none (same, is) = (same, rw (none, is) refl)
 
 -- A load gives the log that the file holds.
-pub load_gives : (name : List ℕ) (old new : Disk) (t : Told) (result : Result (Option LogFile) (Halt Refusal)) → old.told ≡ Some t → Runs (load_plan name) old new result → Gives (loading (bytes_of (t.holds name))) result
+pub load_gives : (name : List ℕ) (old new : Disk) (t : Told) (result : Result (Option LogFile) (Halt Refusal)) → old.told ≡ Some t → Runs (load_plan name) old new result → Gives result (loading (bytes_of (t.holds name)))
 unfolding load_plan Runs followed_by
 load_gives name old new t result told (mid, Ok None, acts, goes) = (absent_gives name mid new (t.holds name) result (none_held (t.holds name) (acts.size t told)) goes).1
 load_gives name old new t result told (mid, Ok (Some size), acts, goes) = (load_found name size old mid new t result told (acts.size t told) (step_keeps name (Ask name) old mid (Ok (Some size)) tt acts) goes).gives

@@ -15,7 +15,7 @@ ghost use Rattle.nr_spec_store.specs.StoreCrashes.{AwaitsBirth, Holds};
 pub fn load_gives_the_log()
     ensures { (name : List ℕ) (old new : Disk) (t : Told) (result : Result (Option LogFile) (Halt Refusal))
         → old.told ≡ Some t → Runs (load_plan name) old new result
-        → Gives (loading (bytes_of (t.holds name))) result }
+        → Gives result (loading (bytes_of (t.holds name))) }
 {}
 
 /// After a load that gave a log every crash leaves that log, until the file is written.
@@ -24,8 +24,8 @@ pub fn load_keeps_the_log()
         → IsBytes (bytes_of (t.holds name)) → Runs (load_plan name) old new (Ok (Some log)) → Holds new name log }
 {}
 
-/// After a load that gave none the file awaits a birth: a crash leaves no log. Where the name is absent this is so if no
-/// crash before it would have left the bytes of a birth.
+/// After a load that gave none the file awaits a birth: a crash leaves no log. Where the name is absent this is so if
+/// no crash before it would have left the bytes of a birth.
 pub fn load_awaits_birth()
     ensures { (name : List ℕ) (old new : Disk) (t : Told) → old.told ≡ Some t
         → (t.holds name ≡ None → IsWithin name (birth_size - 1) old) → Runs (load_plan name) old new (Ok None)

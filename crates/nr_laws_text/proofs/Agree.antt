@@ -7,7 +7,8 @@ use Rattle.std.proofs.lemmas.Bool.{cases_lt, le-leb, leb-true, lt-ltb, ltb-true,
 use Rattle.std.proofs.lemmas.List.{take_at}
 use Rattle.nr_spec_bgp.specs.Prefixes.{Cidr, masked}
 use Rattle.nr_spec_bgp.specs.PrefixText.{address_text, numeral, cidr_in}
-use Rattle.nr_spec_rules.specs.Figures.{◌>>=◌, worth_from, is_numeral, number_to, cut, address_of, prefix_of}
+use Rattle.nr_spec_wire.specs.Optional.{◌>>=◌}
+use Rattle.nr_spec_rules.specs.Figures.{worth_from, is_numeral, number_to, cut, address_of, prefix_of}
 use Rattle.nr_laws_bgp.proofs.Texts.{both_true, of_both, digit_is, digit_of, decimal_1, decimal_2, decimal_3, AreDigits, numeral_decimal, written_is_read, read_is_text}
 
 -- ---- options

@@ -69,8 +69,13 @@ pub record Stores (name : List ℕ) (now : Stored) (old new : List Named) : Type
 
 -- Each of these by whether it is done: a write or a cut that isn't has only begun, and counts for a crash.
 abbrev pub write_to : Bool → (at : ℕ) (from : List ℕ) → Stored → Stored
-write_to true at from s = record { file = Some (written at from (bytes_of s.file)); loose = loose_by_write at (length from) (length (bytes_of s.file)) s.loose }
-write_to false at from s = record { file = s.file; loose = loose_by_write at (length from) (length (bytes_of s.file)) s.loose }
+write_to true at from s =
+    record {
+      file = Some (written at from (bytes_of s.file));
+      loose = loose_by_write at (length from) (length (bytes_of s.file)) s.loose;
+    }
+write_to false at from s =
+    record { file = s.file; loose = loose_by_write at (length from) (length (bytes_of s.file)) s.loose }
 
 abbrev pub cut_by : Bool → (to : ℕ) → Stored → Stored
 cut_by true to s = record { file = cut_to to s.file; loose = loose_by_cut to (length (bytes_of s.file)) s.loose }
@@ -89,11 +94,14 @@ following place len = if nat_lt (place + 1) len then place + 1 else 0
 abbrev pub is_free : Loose → ℕ → Bool
 is_free l place = nat_le l.least place || is_in place l.written
 
--- bytes from a place on, of which each that isn't determined becomes the next one of a filling; and where the filling goes on
+-- bytes from a place on, of which each that isn't determined becomes the next one of a filling; and where the filling
+-- goes on
 unfoldable pub refilled : Loose → (fill : List ℕ) → (place turn : ℕ) → List ℕ → List ℕ × ℕ
 refilled l fill place turn [] = ([], turn)
 refilled l fill place turn (byte ∷ bytes) =
-    if is_free l place then (let rest = refilled l fill (place + 1) (following turn (length fill)) bytes in (get_or fill turn 0 ∷ rest.0, rest.1))
+    if is_free l place
+    then (let rest = refilled l fill (place + 1) (following turn (length fill)) bytes in
+    (get_or fill turn 0 ∷ rest.0, rest.1))
     else (let rest = refilled l fill (place + 1) turn bytes in (byte ∷ rest.0, rest.1))
 
 -- what a read gives, and any bytes up to the greatest length
@@ -102,13 +110,16 @@ reached_bytes s = bytes_of s.file ++ replicate (s.loose.greatest - length (bytes
 
 -- The file is then so much longer than its least length, but not past its greatest.
 abbrev pub crashed : (fill : List ℕ) (extra turn : ℕ) → Stored → List ℕ × ℕ
-crashed fill extra turn s = let all = refilled s.loose fill 0 turn (reached_bytes s) in (take (s.loose.least + extra) all.0, all.1)
+crashed fill extra turn s =
+    let all = refilled s.loose fill 0 turn (reached_bytes s) in
+    (take (s.loose.least + extra) all.0, all.1)
 
 -- the files one after another
 unfoldable pub crashed_files : (fill : List ℕ) (extra turn : ℕ) → List Named → List Named
 crashed_files fill extra turn [] = []
 crashed_files fill extra turn (file ∷ others) =
-    let left = crashed fill extra turn file.stored in record { name = file.name; stored = at_rest left.0 } ∷ crashed_files fill extra left.1 others
+    let left = crashed fill extra turn file.stored in
+    record { name = file.name; stored = at_rest left.0 } ∷ crashed_files fill extra left.1 others
 
 -- A crash has left an image of what was stored, and that is all on the disk.
 pub record IsCrashed (old new : Stored) : Type 0 where
@@ -117,11 +128,27 @@ pub record IsCrashed (old new : Stored) : Type 0 where
 
 -- other files, and nothing else changed
 abbrev pub holding : List Named → MemoryFiles → MemoryFiles
-holding files m = record { files = files; calls = m.calls; read_faults = m.read_faults; write_faults = m.write_faults; asks = m.asks; reads = m.reads }
+holding files m =
+    record {
+      files = files;
+      calls = m.calls;
+      read_faults = m.read_faults;
+      write_faults = m.write_faults;
+      asks = m.asks;
+      reads = m.reads;
+    }
 
 -- other numbers of calls, and nothing else changed
 abbrev pub calling : Numbering → MemoryFiles → MemoryFiles
-calling calls m = record { files = m.files; calls = calls; read_faults = m.read_faults; write_faults = m.write_faults; asks = m.asks; reads = m.reads }
+calling calls m =
+    record {
+      files = m.files;
+      calls = calls;
+      read_faults = m.read_faults;
+      write_faults = m.write_faults;
+      asks = m.asks;
+      reads = m.reads;
+    }
 
 -- a call that reads has been made: it is counted, and its fault if it failed
 abbrev pub after_reading : MemoryFiles → MemoryFiles
@@ -176,4 +203,8 @@ file_of bytes true len = Some (take len bytes)
 file_of bytes false len = None
 
 abbrev pub stored_of : List ℕ → Bool → ℕ → ℕ → List Range → Stored
-stored_of bytes there len least written = record { file = file_of bytes there len; loose = record { least = least; greatest = length bytes; written = written } }
+stored_of bytes there len least written =
+    record {
+      file = file_of bytes there len;
+      loose = record { least = least; greatest = length bytes; written = written };
+    }

@@ -59,7 +59,10 @@ impl Model for File {
 
     ghost Value = { Named };
 
-    ghost view = { λ f. record { name = string_bytes f.name; stored = stored_of f.bytes.items f.there f.len f.least f.written.items } };
+    ghost view = { λ f. record {
+      name = string_bytes f.name;
+      stored = stored_of f.bytes.items f.there f.len f.least f.written.items;
+    } };
 
     ghost invariant = { λ f. (f.len ≤ length f.bytes.items) × (f.least ≤ f.len) × (f.there ≡ false → f.len ≡ 0) };
 }
@@ -111,7 +114,8 @@ impl File {
     // Counts a write as begun: its range, and the length that it would give.
     fn begin_write(&mut self, at: usize, from: &[u8]) -> Result<(), Memory>
         requires { at ≤ length (bytes_of self.old.stored.file) }
-        ensures ok { OnOk result (self.new ≡ record { name = self.old.name; stored = write_to false at from.now self.old.stored }) }
+        ensures ok { OnOk result (self.new
+            ≡ record { name = self.old.name; stored = write_to false at from.now self.old.stored }) }
         ensures memory { OnErr result (self.new ≡ self.old) }
     {
         grow(&mut self.bytes, &mut self.written, at, from)
@@ -121,7 +125,13 @@ impl File {
     fn finish_write(&mut self, at: usize, from: &[u8])
         requires place { at ≤ length (bytes_of self.old.stored.file) }
         requires room { at + length from.now ≤ self.old.stored.loose.greatest }
-        ensures { self.new ≡ record { name = self.old.name; stored = record { file = Some (written at from.now (bytes_of self.old.stored.file)); loose = self.old.stored.loose } } }
+        ensures { self.new ≡ record {
+          name = self.old.name;
+          stored = record {
+            file = Some (written at from.now (bytes_of self.old.stored.file));
+            loose = self.old.stored.loose;
+          };
+        } }
     {
         put_at(&mut self.bytes, at, from);
         self.len = self.len.max(at + from.len());
@@ -131,7 +141,8 @@ impl File {
     /// Writes, where that is to be done; else the write has only begun.
     pub fn write(&mut self, at: usize, from: &[u8], done: bool) -> Result<(), Memory>
         requires { at ≤ length (bytes_of self.old.stored.file) }
-        ensures ok { OnOk result (self.new ≡ record { name = self.old.name; stored = write_to done at from.now self.old.stored }) }
+        ensures ok { OnOk result (self.new
+            ≡ record { name = self.old.name; stored = write_to done at from.now self.old.stored }) }
         ensures memory { OnErr result (self.new ≡ self.old) }
     {
         self.begin_write(at, from)?;
@@ -171,7 +182,8 @@ impl File {
         ensures place { result < length fill.now }
         ensures name { self.new.name ≡ self.old.name }
         ensures turn { result ≡ (crashed fill.now extra next self.old.stored).1 }
-        ensures crashed { self.new ≡ record { name = self.old.name; stored = at_rest (crashed fill.now extra next self.old.stored).0 } }
+        ensures crashed { self.new
+            ≡ record { name = self.old.name; stored = at_rest (crashed fill.now extra next self.old.stored).0 } }
         ensures left { IsCrashed self.old.stored self.new.stored }
     {
         let next = scramble(&mut self.bytes, self.least, &self.written, fill, next);
@@ -192,7 +204,8 @@ fn grow(bytes: &mut Vec<u8>, written: &mut Vec<Range>, at: usize, from: &[u8]) -
     requires { at ≤ length bytes.old.items }
     ensures size { OnOk result (length bytes.new.items ≡ max (length bytes.old.items) (at + length from.now)) }
     ensures front { OnOk result (take (length bytes.old.items) bytes.new.items ≡ bytes.old.items) }
-    ensures range { OnOk result (written.new.items ≡ written.old.items ++ record { from = at; to = at + length from.now } ∷ []) }
+    ensures range { OnOk result (written.new.items ≡ written.old.items
+        ++ record { from = at; to = at + length from.now } ∷ []) }
     ensures bytes_left { OnErr result (bytes.new.items ≡ bytes.old.items) }
     ensures ranges_left { OnErr result (written.new.items ≡ written.old.items) }
 {
@@ -235,8 +248,11 @@ fn scramble(bytes: &mut Vec<u8>, least: usize, written: &[Range], fill: &[u8], n
     requires { next < length fill.now }
     ensures place { result < length fill.now }
     ensures size { length bytes.new.items ≡ length bytes.old.items }
-    ensures refilled { (bytes.new.items, result) ≡ refilled (record { least = least; greatest = length bytes.old.items; written = written.now }) fill.now 0 next bytes.old.items }
-    ensures stays { (place : ℕ) → place < least → images.is_in place written.now ≡ false → get_or bytes.new.items place 0 ≡ get_or bytes.old.items place 0 }
+    ensures refilled { (bytes.new.items, result)
+        ≡ refilled (record { least = least; greatest = length bytes.old.items; written = written.now })
+        fill.now 0 next bytes.old.items }
+    ensures stays { (place : ℕ) → place < least → images.is_in place written.now ≡ false
+        → get_or bytes.new.items place 0 ≡ get_or bytes.old.items place 0 }
 {
     let mut turn = next;
     for i in 0..bytes.len() {

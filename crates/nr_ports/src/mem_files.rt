@@ -33,13 +33,27 @@ impl Model for MemFiles {
 
     ghost Value = { MemoryFiles };
 
-    ghost view = { λ m. record { files = m.files.items; calls = m.calls; read_faults = m.read_faults; write_faults = m.write_faults; asks = m.asks; reads = m.reads } };
+    ghost view = { λ m. record {
+      files = m.files.items;
+      calls = m.calls;
+      read_faults = m.read_faults;
+      write_faults = m.write_faults;
+      asks = m.asks;
+      reads = m.reads;
+    } };
 }
 
 impl MemFiles {
     /// No file, no call and no fault.
     pub fn new(alloc: Global) -> MemFiles
-        ensures { result ≡ record { files = []; calls = record { failing = []; made = 0 }; read_faults = 0; write_faults = 0; asks = 0; reads = 0 } }
+        ensures { result ≡ record {
+          files = [];
+          calls = record { failing = []; made = 0 };
+          read_faults = 0;
+          write_faults = 0;
+          asks = 0;
+          reads = 0;
+        } }
     {
         MemFiles {
             alloc,
@@ -52,8 +66,8 @@ impl MemFiles {
         }
     }
 
-    /// Places bytes under a name, in the place of what the name held, all of them on the disk. `Memory` leaves all as it
-    /// was.
+    /// Places bytes under a name, in the place of what the name held, all of them on the disk. `Memory` leaves all as
+    /// it was.
     pub fn put(&mut self, name: &str, bytes: &[u8]) -> Result<(), Memory>
         ensures ok { OnOk result (Stores name.now (at_rest bytes.now) self.old.files self.new.files) }
         ensures rest { self.new ≡ holding self.new.files self.old }
@@ -116,7 +130,14 @@ impl MemFiles {
     // Counts a call that writes as one that failed.
     fn fail_writing(&mut self) -> WriteFault
         ensures fault { result ≡ WriteFault.Failed }
-        ensures after { self.new ≡ record { files = self.old.files; calls = self.old.calls; read_faults = self.old.read_faults; write_faults = more 1 self.old.write_faults; asks = self.old.asks; reads = self.old.reads } }
+        ensures after { self.new ≡ record {
+          files = self.old.files;
+          calls = self.old.calls;
+          read_faults = self.old.read_faults;
+          write_faults = more 1 self.old.write_faults;
+          asks = self.old.asks;
+          reads = self.old.reads;
+        } }
     {
         self.write_faults = raise(1, self.write_faults);
         WriteFault::Failed
@@ -171,8 +192,12 @@ impl Files for MemFiles {
     // is made first, so that memory may run out in a listed call too.
     fn write_at(&mut self, name: &str, at: u64, from: &[u8]) -> Result<(), WriteFault>
         requires { at ≤ length (bytes_of (held_in self.old.files name.now)) }
-        ensures written { OnOk result (Stores name.now (write_to true at from.now (stored_in self.old.files name.now)) self.old.files self.new.files) }
-        ensures begun { IsErrOf result WriteFault.Failed → Stores name.now (write_to false at from.now (stored_in self.old.files name.now)) self.old.files self.new.files }
+        ensures written { OnOk result
+            (Stores name.now (write_to true at from.now (stored_in self.old.files name.now)) self.old.files
+            self.new.files) }
+        ensures begun { IsErrOf result WriteFault.Failed
+            → Stores name.now (write_to false at from.now (stored_in self.old.files name.now)) self.old.files
+            self.new.files }
         ensures nothing { IsErrOf result WriteFault.Memory → self.new.files ≡ self.old.files }
         ensures failed { IsErrOf result WriteFault.Failed → IsTrue (fails_next self.old.calls) }
         ensures listed { IsTrue (fails_next self.old.calls) → IsErr result }
@@ -189,8 +214,10 @@ impl Files for MemFiles {
 
     // It fails exactly where its number is listed, and then leaves what a read gives as it was, but counts as begun.
     fn cut(&mut self, name: &str, len: u64) -> Result<(), WriteFault>
-        ensures cut { OnOk result (Stores name.now (cut_by true len (stored_in self.old.files name.now)) self.old.files self.new.files) }
-        ensures begun { IsErrOf result WriteFault.Failed → Stores name.now (cut_by false len (stored_in self.old.files name.now)) self.old.files self.new.files }
+        ensures cut { OnOk result
+            (Stores name.now (cut_by true len (stored_in self.old.files name.now)) self.old.files self.new.files) }
+        ensures begun { IsErrOf result WriteFault.Failed
+            → Stores name.now (cut_by false len (stored_in self.old.files name.now)) self.old.files self.new.files }
         ensures nothing { IsErrOf result WriteFault.Memory → self.new.files ≡ self.old.files }
         ensures counts { self.new.calls ≡ counted self.old.calls }
         ensures failed { IsErrOf result WriteFault.Failed ↔ IsTrue (fails_next self.old.calls) }
@@ -206,7 +233,8 @@ impl Files for MemFiles {
 
     // It fails exactly where its number is listed, and wants no memory.
     fn sync(&mut self, name: &str) -> Result<(), WriteFault>
-        ensures settled { OnOk result (Stores name.now (synced (stored_in self.old.files name.now)) self.old.files self.new.files) }
+        ensures settled { OnOk result
+            (Stores name.now (synced (stored_in self.old.files name.now)) self.old.files self.new.files) }
         ensures nothing { OnErr result (self.new.files ≡ self.old.files) }
         ensures memory { IsErrOf result WriteFault.Memory → ⊥ }
         ensures counts { self.new.calls ≡ counted self.old.calls }

@@ -52,7 +52,13 @@ impl MemSink {
 
     /// Lists a number of a call that is to fail. `Memory` leaves all as it was.
     pub fn fail_call(&mut self, number: u64) -> Result<(), Memory>
-        ensures ok { OnOk result (self.new ≡ record { bytes = self.old.bytes; calls = listed number self.old.calls; faults = self.old.faults; idle = self.old.idle }) }
+        ensures ok { OnOk result (self.new
+            ≡ record {
+              bytes = self.old.bytes;
+              calls = listed number self.old.calls;
+              faults = self.old.faults;
+              idle = self.old.idle;
+            }) }
         ensures memory { OnErr result (self.new ≡ self.old) }
     {
         self.calls.list(number)

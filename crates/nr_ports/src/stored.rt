@@ -72,7 +72,9 @@ pub fn write_in(
     done: bool,
 ) -> Result<(), Memory>
     requires { at ≤ length (bytes_of (held_in files.old.items name.now)) }
-    ensures ok { OnOk result (Stores name.now (write_to done at from.now (stored_in files.old.items name.now)) files.old.items files.new.items) }
+    ensures ok { OnOk result
+        (Stores name.now (write_to done at from.now (stored_in files.old.items name.now)) files.old.items
+        files.new.items) }
     ensures memory { OnErr result (files.new.items ≡ files.old.items) }
 {
     match place_of(files, name) {
@@ -95,7 +97,8 @@ pub fn cut_in(
     to: u64,
     done: bool,
 ) -> Result<(), Memory>
-    ensures ok { OnOk result (Stores name.now (cut_by done to (stored_in files.old.items name.now)) files.old.items files.new.items) }
+    ensures ok { OnOk result
+        (Stores name.now (cut_by done to (stored_in files.old.items name.now)) files.old.items files.new.items) }
     ensures memory { OnErr result (files.new.items ≡ files.old.items) }
     ensures begun { IsErr result → done ≡ true }
 {

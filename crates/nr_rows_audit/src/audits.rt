@@ -12,7 +12,8 @@ use std::test::Fail;
 
 const FILE: &[u8; 26] = b"network 64500; commit 60;\n";
 
-// The promise file in force, a COMMIT with another leaf than the first, and the COMMIT to the auditor, a microsecond later.
+// The promise file in force, a COMMIT with another leaf than the first, and the COMMIT to the auditor, a microsecond
+// later.
 const ENTRIES: [&str; 3] = [
     "00000000000000000700261375025123b16bf96231b58c900e4c344b41888c97be7aab4f6188ed8636572300000000003c",
     "0000000000000000050006ffff00000001",

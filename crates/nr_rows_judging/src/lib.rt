@@ -1,5 +1,5 @@
-//! Rows of runs, and of promises that a log keeps or breaks: tables written out from the definitions. It has nothing but
-//! tests, and what they share.
+//! Rows of runs, and of promises that a log keeps or breaks: tables written out from the definitions. It has nothing
+//! but tests, and what they share.
 #![tactic(auto)]
 
 #[cfg(test)]

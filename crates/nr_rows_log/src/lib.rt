@@ -1,5 +1,5 @@
-//! Rows of the contents of entries, of routes by looking back, and of counts, causes and checkpoint bodies: tables written
-//! out from the formats of a log. It has nothing but tests, and what they share.
+//! Rows of the contents of entries, of routes by looking back, and of counts, causes and checkpoint bodies: tables
+//! written out from the formats of a log. It has nothing but tests, and what they share.
 #![tactic(auto)]
 
 #[cfg(test)]

@@ -51,13 +51,13 @@ refused_at between item front zero ts enough same s some e = absurd (omega arith
 refused_at between item front (suc n) ts enough same s some e = sym (rw (s, e) at same)
 
 fails_at : {A : Type 0} (between : Kind) (item : Parser A) (front : List A) (whole : Outcome (List A)) (ts next : List Token)
-    → IsLeft between item front ts whole → sees between ts ≡ true → next ≡ drop 1 ts → 0 < length ts → (e : ParseError) → Fails (item next) e → Fails whole e
+    → IsLeft between item front ts whole → sees between ts ≡ true → next ≡ drop 1 ts → 0 < length ts → (e : ParseError) → Fails e (item next) → Fails e whole
 fails_at between item front whole ts next left s n some Memory h = tt
 fails_at between item front whole ts next left s n some (At place) h = refused_at between item front left.bound ts left.enough left.same s some (sym (ap item n) ∙ h)
 
 -- the one behind the token between was refused
 pub left_fails : {A : Type 0} {between : Kind} {item : Parser A} {front : List A} {whole : Outcome (List A)} {ts next : List Token}
-    → IsLeft between item front ts whole → sees between ts ≡ true → next ≡ drop 1 ts → 0 < length ts → (e : ParseError) → Fails (item next) e → Fails whole e
+    → IsLeft between item front ts whole → sees between ts ≡ true → next ≡ drop 1 ts → 0 < length ts → (e : ParseError) → Fails e (item next) → Fails e whole
 left_fails {between = between} {item = item} {front = front} {whole = whole} {ts = ts} {next = next} left s n some e h = fails_at between item front whole ts next left s n some e h
 
 done_at : {A : Type 0} (between : Kind) (item : Parser A) (front : List A) {whole : Outcome (List A)} (n : ℕ) (ts : List Token)
@@ -118,12 +118,12 @@ some_left [] s = absurd (cc)
 some_left (t ∷ ts) s = omega arith
 
 until_fails_at : {A : Type 0} (item : Parser A) (front : List A) (whole : Outcome (List A)) (ts : List Token)
-    → IsLeftUntil End item front ts whole → sees End ts ≡ false → (e : ParseError) → Fails (item ts) e → Fails whole e
+    → IsLeftUntil End item front ts whole → sees End ts ≡ false → (e : ParseError) → Fails e (item ts) → Fails e whole
 until_fails_at item front whole ts left s Memory h = tt
 until_fails_at item front whole ts left s (At place) h = until_refused End item front left.bound ts left.enough left.same s (some_left ts s) h
 
 pub until_fails : {A : Type 0} {item : Parser A} {front : List A} {whole : Outcome (List A)} {ts : List Token}
-    → IsLeftUntil End item front ts whole → sees End ts ≡ false → (e : ParseError) → Fails (item ts) e → Fails whole e
+    → IsLeftUntil End item front ts whole → sees End ts ≡ false → (e : ParseError) → Fails e (item ts) → Fails e whole
 until_fails {item = item} {front = front} {whole = whole} {ts = ts} left s e h = until_fails_at item front whole ts left s e h
 
 until_done_at : {A : Type 0} (last : Kind) (item : Parser A) (front : List A) {whole : Outcome (List A)} (n : ℕ) (ts : List Token)
@@ -137,7 +137,7 @@ pub until_done : {A : Type 0} {last : Kind} {item : Parser A} {front : List A} {
 until_done {last = last} {item = item} {front = front} {ts = ts} left s = until_done_at last item front left.bound ts left.same s
 
 -- the first was refused
-pub list_fails : {A : Type 0} (between : Kind) (item : Parser A) (ts : List Token) (e : ParseError) → Fails (item ts) e → Fails (list between item ts) e
+pub list_fails : {A : Type 0} (between : Kind) (item : Parser A) (ts : List Token) (e : ParseError) → Fails e (item ts) → Fails e (list between item ts)
 unfolding list
 list_fails between item ts Memory h = tt
 list_fails {A} between item ts (At place) h = ap (λ (r : Outcome A). and_then r (λ first. following first between item)) h

@@ -2,6 +2,7 @@
 use Rattle.std.proofs.Common.{◌≡◌, ℕ, ◌+◌, ◌*◌, ◌<◌, ◌≤◌, Bool, true, false, ◌&&◌, cond, leb, List, [], ◌∷◌, length, Option, Some, None, Result, Ok, Err, refl, sym, subst, ◌∙◌, arith}
 use Rattle.nr_spec_rules.specs.declared.kind.Kind.TheVariants as k
 use Rattle.nr_spec_rules.specs.Figures.{number_to, number_of, address_of, prefix_of, community_of, digest_of, cut}
+use Rattle.nr_spec_wire.specs.Optional as optional
 use Rattle.nr_spec_rules.specs.Figures as figures
 use Rattle.nr_spec_bgp.specs.Prefixes.{masked, IsCidr}
 use Rattle.nr_prefix.proofs.Masking.{masked_is_cidr}
@@ -16,7 +17,7 @@ use Rattle.nr_rule_syntax.proofs.Yields.{Yields, yields_then, yields_pure, yield
 
 -- ---- figures
 
-then_of : {A B : Type 0} (r : Option A) (f : A → Option B) (y : B) → figures.◌>>=◌ r f ≡ Some y → (x : A) × (r ≡ Some x) × (f x ≡ Some y)
+then_of : {A B : Type 0} (r : Option A) (f : A → Option B) (y : B) → optional.◌>>=◌ r f ≡ Some y → (x : A) × (r ≡ Some x) × (f x ≡ Some y)
 then_of None f y e = absurd cc
 then_of (Some x) f y e = (x, refl, e)
 

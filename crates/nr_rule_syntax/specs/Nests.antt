@@ -20,7 +20,7 @@ Post = Global → MutBor (List Token) → ℕ → Level → Result Form ParseErr
 pub record Nests (levels : ℕ) (pre : Pre) (post : Post) : Type 0 where
   pub callable : (alloc : Global) (old : MutBor (List Token)) (level : Level) → pre alloc old levels level
   pub reads : (alloc : Global) (old new : MutBor (List Token)) (level : Level) (r : Result Form ParseError)
-      → post alloc old levels level r new → Reads (inside levels level old.now) r new.now
+      → post alloc old levels level r new → Reads r new.now (inside levels level old.now)
   pub onward : (alloc : Global) (old new : MutBor (List Token)) (level : Level) (r : Result Form ParseError)
       → post alloc old levels level r new → AreNoMore old.now new.now
   pub nests : (alloc : Global) (old new : MutBor (List Token)) (level : Level) (r : Result Form ParseError)

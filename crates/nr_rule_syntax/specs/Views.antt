@@ -7,18 +7,18 @@ use Rattle.nr_rule_syntax.specs.declared.fault.ParseError.TheVariants.{At, Memor
 
 -- A result is what reading gives, and the tokens after it, or the place of its refusal. Want of memory says
 -- nothing.
-abbrev pub Fails : {A : Type 0} → Result A ℕ → ParseError → Type 0
-Fails read (At place) = read ≡ Err place.0
-Fails read Memory = Unit {0}
+abbrev pub Fails : {A : Type 0} → ParseError → Result A ℕ → Type 0
+Fails (At place) read = read ≡ Err place.0
+Fails Memory read = Unit {0}
 
-abbrev pub Reads : {A : Type 0} → Outcome A → Result A ParseError → List Token → Type 0
-Reads read (Ok x) new = read ≡ Ok (x, new)
-Reads read (Err e) new = Fails read e
+abbrev pub Reads : {A : Type 0} → Result A ParseError → List Token → Outcome A → Type 0
+Reads (Ok x) new read = read ≡ Ok (x, new)
+Reads (Err e) new read = Fails e read
 
 -- The same for what reads the whole text.
-abbrev pub Answers : {A : Type 0} → Result A ℕ → Result A ParseError → Type 0
-Answers read (Ok x) = read ≡ Ok x
-Answers read (Err e) = Fails read e
+abbrev pub Answers : {A : Type 0} → Result A ParseError → Result A ℕ → Type 0
+Answers (Ok x) read = read ≡ Ok x
+Answers (Err e) read = Fails e read
 
 -- No more tokens are left than before.
 abbrev pub AreNoMore : List Token → List Token → Type 0

@@ -22,7 +22,7 @@ use std::alloc::Global;
 #[tactic(auto, unfolding(crate::specs::Reading::numbered))]
 fn numbered(tokens: &mut Tokens<'_>, kind: Kind) -> Result<(Num, Span), ParseError>
     requires { goes_on kind ≡ true }
-    ensures value { Reads (spec.numbered kind tokens.old) result tokens.new }
+    ensures value { Reads result tokens.new (spec.numbered kind tokens.old) }
     ensures shorter { OnOk result (length tokens.new < length tokens.old) }
 {
     let span = expect(tokens, kind)?;
@@ -34,7 +34,7 @@ fn numbered(tokens: &mut Tokens<'_>, kind: Kind) -> Result<(Num, Span), ParseErr
 // `[ root ROOT number NUMBER ]`
 #[tactic(auto, unfolding(crate::specs::Reading::key))]
 fn key(tokens: &mut Tokens<'_>) -> Result<Option<(RootText, Num)>, ParseError>
-    ensures value { Reads (spec.key tokens.old) result tokens.new }
+    ensures value { Reads result tokens.new (spec.key tokens.old) }
     ensures onward { AreNoMore tokens.old tokens.new }
 {
     if !sees(tokens, Kind::RootWord) {
@@ -51,7 +51,7 @@ fn key(tokens: &mut Tokens<'_>) -> Result<Option<(RootText, Num)>, ParseError>
 #[tactic(auto, unfolding(crate::specs::Reading::neighbour))]
 fn neighbour(alloc: Global, tokens: &mut Tokens<'_>) -> Result<Decl, ParseError>
     requires { goes_on (kind_of tokens.old) ≡ true }
-    ensures value { Reads (spec.neighbour tokens.old) result tokens.new }
+    ensures value { Reads result tokens.new (spec.neighbour tokens.old) }
     ensures nests { IfOk result IsNested }
     ensures shorter { OnOk result (length tokens.new < length tokens.old) }
 {
@@ -73,7 +73,7 @@ fn neighbour(alloc: Global, tokens: &mut Tokens<'_>) -> Result<Decl, ParseError>
 
 // `NAME { , NAME }`
 fn names(alloc: Global, tokens: &mut Tokens<'_>) -> Result<Items<Name>, ParseError>
-    ensures value { Reads (list k.Comma spec.name tokens.old) result tokens.new }
+    ensures value { Reads result tokens.new (list k.Comma spec.name tokens.old) }
     ensures onward { AreNoMore tokens.old tokens.new }
 {
     let mut items = Items::new(alloc);
@@ -89,7 +89,7 @@ fn names(alloc: Global, tokens: &mut Tokens<'_>) -> Result<Items<Name>, ParseErr
 #[tactic(auto, unfolding(crate::specs::Reading::group))]
 fn group(alloc: Global, tokens: &mut Tokens<'_>) -> Result<Decl, ParseError>
     requires { goes_on (kind_of tokens.old) ≡ true }
-    ensures value { Reads (spec.group tokens.old) result tokens.new }
+    ensures value { Reads result tokens.new (spec.group tokens.old) }
     ensures nests { IfOk result IsNested }
     ensures shorter { OnOk result (length tokens.new < length tokens.old) }
 {
@@ -104,7 +104,7 @@ fn group(alloc: Global, tokens: &mut Tokens<'_>) -> Result<Decl, ParseError>
 // `PREFIX [ le NUMBER ]`
 #[tactic(auto, unfolding(crate::specs::Reading::pattern))]
 fn pattern(tokens: &mut Tokens<'_>) -> Result<PatternText, ParseError>
-    ensures value { Reads (spec.pattern tokens.old) result tokens.new }
+    ensures value { Reads result tokens.new (spec.pattern tokens.old) }
     ensures onward { AreNoMore tokens.old tokens.new }
 {
     let PrefixText { prefix, span } = prefix(tokens)?;
@@ -122,7 +122,7 @@ fn pattern(tokens: &mut Tokens<'_>) -> Result<PatternText, ParseError>
 
 // `Pattern { , Pattern }`
 fn patterns(alloc: Global, tokens: &mut Tokens<'_>) -> Result<Items<PatternText>, ParseError>
-    ensures value { Reads (list k.Comma spec.pattern tokens.old) result tokens.new }
+    ensures value { Reads result tokens.new (list k.Comma spec.pattern tokens.old) }
     ensures onward { AreNoMore tokens.old tokens.new }
 {
     let mut items = Items::new(alloc);
@@ -138,7 +138,7 @@ fn patterns(alloc: Global, tokens: &mut Tokens<'_>) -> Result<Items<PatternText>
 #[tactic(auto, unfolding(crate::specs::Reading::define))]
 fn define(alloc: Global, tokens: &mut Tokens<'_>) -> Result<Decl, ParseError>
     requires { goes_on (kind_of tokens.old) ≡ true }
-    ensures value { Reads (spec.define tokens.old) result tokens.new }
+    ensures value { Reads result tokens.new (spec.define tokens.old) }
     ensures nests { IfOk result IsNested }
     ensures shorter { OnOk result (length tokens.new < length tokens.old) }
 {
@@ -152,7 +152,7 @@ fn define(alloc: Global, tokens: &mut Tokens<'_>) -> Result<Decl, ParseError>
 
 // `PREFIX { , PREFIX }`
 fn prefixes(alloc: Global, tokens: &mut Tokens<'_>) -> Result<Items<PrefixText>, ParseError>
-    ensures value { Reads (list k.Comma spec.prefix tokens.old) result tokens.new }
+    ensures value { Reads result tokens.new (list k.Comma spec.prefix tokens.old) }
     ensures onward { AreNoMore tokens.old tokens.new }
 {
     let mut items = Items::new(alloc);
@@ -167,7 +167,7 @@ fn prefixes(alloc: Global, tokens: &mut Tokens<'_>) -> Result<Items<PrefixText>,
 // `[ at PREFIX { , PREFIX } ]`
 #[tactic(auto, unfolding(crate::specs::Reading::places))]
 fn places(alloc: Global, tokens: &mut Tokens<'_>) -> Result<Items<PrefixText>, ParseError>
-    ensures value { Reads (spec.places tokens.old) result tokens.new }
+    ensures value { Reads result tokens.new (spec.places tokens.old) }
     ensures onward { AreNoMore tokens.old tokens.new }
 {
     if !sees(tokens, Kind::At) {
@@ -183,7 +183,7 @@ fn terms_of_promise(
     alloc: Global,
     tokens: &mut Tokens<'_>,
 ) -> Result<(Name, Num, Items<PrefixText>), ParseError>
-    ensures value { Reads (spec.terms_of_promise tokens.old) result tokens.new }
+    ensures value { Reads result tokens.new (spec.terms_of_promise tokens.old) }
     ensures onward { AreNoMore tokens.old tokens.new }
 {
     let name = name(alloc, tokens)?;
@@ -197,7 +197,7 @@ fn terms_of_promise(
 #[tactic(auto, unfolding(crate::specs::Reading::promise))]
 fn promise(alloc: Global, tokens: &mut Tokens<'_>) -> Result<Decl, ParseError>
     requires { goes_on (kind_of tokens.old) ≡ true }
-    ensures value { Reads (spec.promise tokens.old) result tokens.new }
+    ensures value { Reads result tokens.new (spec.promise tokens.old) }
     ensures nests { IfOk result IsNested }
     ensures shorter { OnOk result (length tokens.new < length tokens.old) }
 {
@@ -216,7 +216,7 @@ fn promise(alloc: Global, tokens: &mut Tokens<'_>) -> Result<Decl, ParseError>
 
 #[tactic(auto, unfolding(crate::specs::Reading::declaration))]
 fn declaration(alloc: Global, tokens: &mut Tokens<'_>) -> Result<Decl, ParseError>
-    ensures value { Reads (spec.declaration tokens.old) result tokens.new }
+    ensures value { Reads result tokens.new (spec.declaration tokens.old) }
     ensures nests { IfOk result IsNested }
     ensures shorter { OnOk result (length tokens.new < length tokens.old) }
 {
@@ -239,7 +239,7 @@ fn declaration(alloc: Global, tokens: &mut Tokens<'_>) -> Result<Decl, ParseErro
 
 /// The declarations up to the end of the text.
 pub fn declarations(alloc: Global, tokens: &mut Tokens<'_>) -> Result<Items<Decl>, ParseError>
-    ensures value { Reads (spec.declarations tokens.old) result tokens.new }
+    ensures value { Reads result tokens.new (spec.declarations tokens.old) }
     ensures nests { IfOk result (All IsNested) }
 {
     let mut items = Items::new(alloc);

@@ -42,7 +42,7 @@ struct Grammar<F> {
 impl<F: Fn(Global, &mut Tokens<'_>, usize, Level) -> Result<Form, ParseError>> Grammar<F> {
     fn inside(&self, tokens: &mut Tokens<'_>, level: Level) -> Result<Form, ParseError>
         requires { Nests self.now.levels (F.pre self.now.inside) (F.post self.now.inside) }
-        ensures value { Reads (spec.inside self.now.levels level tokens.old) result tokens.new }
+        ensures value { Reads result tokens.new (spec.inside self.now.levels level tokens.old) }
         ensures nests { IfOk result (IsInside self.now.levels level) }
         ensures onward { AreNoMore tokens.old tokens.new }
     {
@@ -52,7 +52,7 @@ impl<F: Fn(Global, &mut Tokens<'_>, usize, Level) -> Result<Form, ParseError>> G
     // The same, in a box of its own.
     fn held(&self, tokens: &mut Tokens<'_>, level: Level) -> Result<Boxed<Form>, ParseError>
         requires { Nests self.now.levels (F.pre self.now.inside) (F.post self.now.inside) }
-        ensures value { Reads (spec.inside self.now.levels level tokens.old) result tokens.new }
+        ensures value { Reads result tokens.new (spec.inside self.now.levels level tokens.old) }
         ensures nests { IfOk result (IsInside self.now.levels level) }
         ensures onward { AreNoMore tokens.old tokens.new }
     {
@@ -62,7 +62,7 @@ impl<F: Fn(Global, &mut Tokens<'_>, usize, Level) -> Result<Form, ParseError>> G
     // The next token, which opens a level.
     fn open(&self, tokens: &mut Tokens<'_>) -> Result<(), ParseError>
         requires { goes_on (kind_of tokens.old) ≡ true }
-        ensures value { Reads (spec.opens self.now.levels tokens.old) result tokens.new }
+        ensures value { Reads result tokens.new (spec.opens self.now.levels tokens.old) }
         ensures onward { AreNoMore tokens.old tokens.new }
     {
         if self.levels == 0 {
@@ -76,8 +76,8 @@ impl<F: Fn(Global, &mut Tokens<'_>, usize, Level) -> Result<Form, ParseError>> G
     fn parenthesized(&self, tokens: &mut Tokens<'_>) -> Result<Form, ParseError>
         requires nests { Nests self.now.levels (F.pre self.now.inside) (F.post self.now.inside) }
         requires more { goes_on (kind_of tokens.old) ≡ true }
-        ensures value { Reads (spec.parenthesized self.now.levels (spec.inside self.now.levels) tokens.old)
-            result tokens.new }
+        ensures value { Reads result tokens.new
+            (spec.parenthesized self.now.levels (spec.inside self.now.levels) tokens.old) }
         ensures nests { IfOk result (λ form. depth_within 3 form ≤ self.now.levels) }
         ensures onward { AreNoMore tokens.old tokens.new }
     {
@@ -92,8 +92,8 @@ impl<F: Fn(Global, &mut Tokens<'_>, usize, Level) -> Result<Form, ParseError>> G
     fn over_group(&self, tokens: &mut Tokens<'_>) -> Result<(Name, Name, Boxed<Form>), ParseError>
         requires nests { Nests self.now.levels (F.pre self.now.inside) (F.post self.now.inside) }
         requires more { goes_on (kind_of tokens.old) ≡ true }
-        ensures value { Reads (spec.over_group self.now.levels (spec.inside self.now.levels) tokens.old)
-            result tokens.new }
+        ensures value { Reads result tokens.new
+            (spec.over_group self.now.levels (spec.inside self.now.levels) tokens.old) }
         ensures nests { IfOk result (λ x. depth x.2 < self.now.levels) }
         ensures onward { AreNoMore tokens.old tokens.new }
     {
@@ -111,7 +111,7 @@ impl<F: Fn(Global, &mut Tokens<'_>, usize, Level) -> Result<Form, ParseError>> G
     #[tactic(auto, unfolding(crate::specs::Reading::bound))]
     fn bound(&self, tokens: &mut Tokens<'_>) -> Result<(Name, (Side, Name)), ParseError>
         requires { goes_on (kind_of tokens.old) ≡ true }
-        ensures value { Reads (spec.bound self.now.levels tokens.old) result tokens.new }
+        ensures value { Reads result tokens.new (spec.bound self.now.levels tokens.old) }
         ensures onward { AreNoMore tokens.old tokens.new }
     {
         self.open(tokens)?;
@@ -126,7 +126,7 @@ impl<F: Fn(Global, &mut Tokens<'_>, usize, Level) -> Result<Form, ParseError>> G
     #[tactic(auto, unfolding(crate::specs::Reading::branches))]
     fn branches(&self, tokens: &mut Tokens<'_>) -> Result<(Boxed<Form>, Boxed<Form>), ParseError>
         requires { Nests self.now.levels (F.pre self.now.inside) (F.post self.now.inside) }
-        ensures value { Reads (spec.branches (spec.inside self.now.levels) tokens.old) result tokens.new }
+        ensures value { Reads result tokens.new (spec.branches (spec.inside self.now.levels) tokens.old) }
         ensures nests { IfOk result (λ x. (depth x.0 < self.now.levels) × (depth x.1 < self.now.levels)) }
         ensures onward { AreNoMore tokens.old tokens.new }
     {
@@ -141,8 +141,8 @@ impl<F: Fn(Global, &mut Tokens<'_>, usize, Level) -> Result<Form, ParseError>> G
     fn conditional(&self, tokens: &mut Tokens<'_>) -> Result<Form, ParseError>
         requires nests { Nests self.now.levels (F.pre self.now.inside) (F.post self.now.inside) }
         requires more { goes_on (kind_of tokens.old) ≡ true }
-        ensures value { Reads (spec.conditional self.now.levels (spec.inside self.now.levels) tokens.old)
-            result tokens.new }
+        ensures value { Reads result tokens.new
+            (spec.conditional self.now.levels (spec.inside self.now.levels) tokens.old) }
         ensures nests { IfOk result (λ form. depth_within 3 form ≤ self.now.levels) }
         ensures onward { AreNoMore tokens.old tokens.new }
     {
@@ -160,7 +160,7 @@ impl<F: Fn(Global, &mut Tokens<'_>, usize, Level) -> Result<Form, ParseError>> G
     #[tactic(auto, unfolding(crate::specs::Reading::atom))]
     fn atom(&self, tokens: &mut Tokens<'_>) -> Result<Form, ParseError>
         requires { Nests self.now.levels (F.pre self.now.inside) (F.post self.now.inside) }
-        ensures value { Reads (spec.atom self.now.levels (spec.inside self.now.levels) tokens.old) result tokens.new }
+        ensures value { Reads result tokens.new (spec.atom self.now.levels (spec.inside self.now.levels) tokens.old) }
         ensures nests { IfOk result (λ form. depth_within 3 form ≤ self.now.levels) }
         ensures onward { AreNoMore tokens.old tokens.new }
     {
@@ -199,8 +199,8 @@ impl<F: Fn(Global, &mut Tokens<'_>, usize, Level) -> Result<Form, ParseError>> G
     #[tactic(auto, unfolding(crate::specs::Reading::negation))]
     fn negation(&self, tokens: &mut Tokens<'_>) -> Result<Form, ParseError>
         requires { Nests self.now.levels (F.pre self.now.inside) (F.post self.now.inside) }
-        ensures value { Reads (spec.negation self.now.levels (spec.inside self.now.levels) tokens.old)
-            result tokens.new }
+        ensures value { Reads result tokens.new
+            (spec.negation self.now.levels (spec.inside self.now.levels) tokens.old) }
         ensures nests { IfOk result (λ form. depth_within 3 form ≤ self.now.levels) }
         ensures onward { AreNoMore tokens.old tokens.new }
     {
@@ -216,9 +216,8 @@ impl<F: Fn(Global, &mut Tokens<'_>, usize, Level) -> Result<Form, ParseError>> G
         requires inside { Nests self.now.levels (F.pre self.now.inside) (F.post self.now.inside) }
         requires fits { depth_within 3 first ≤ self.now.levels }
         ensures nests { IfOk result (λ members. most_within 3 (map measured members) ≤ self.now.levels) }
-        ensures value { Reads
-            (following first k.And (spec.negation self.now.levels (spec.inside self.now.levels)) tokens.old)
-            result tokens.new }
+        ensures value { Reads result tokens.new
+            (following first k.And (spec.negation self.now.levels (spec.inside self.now.levels)) tokens.old) }
         ensures onward { AreNoMore tokens.old tokens.new }
     {
         let mut members = Items::new(self.alloc);
@@ -233,8 +232,8 @@ impl<F: Fn(Global, &mut Tokens<'_>, usize, Level) -> Result<Form, ParseError>> G
     #[tactic(auto, unfolding(nr_spec_rules::specs::Parsing::chain, crate::specs::Reading::conjunction))]
     fn conjunction(&self, tokens: &mut Tokens<'_>) -> Result<Form, ParseError>
         requires { Nests self.now.levels (F.pre self.now.inside) (F.post self.now.inside) }
-        ensures value { Reads (spec.conjunction self.now.levels (spec.inside self.now.levels) tokens.old)
-            result tokens.new }
+        ensures value { Reads result tokens.new
+            (spec.conjunction self.now.levels (spec.inside self.now.levels) tokens.old) }
         ensures nests { IfOk result (λ form. depth_within 2 form ≤ self.now.levels) }
         ensures onward { AreNoMore tokens.old tokens.new }
     {
@@ -250,9 +249,8 @@ impl<F: Fn(Global, &mut Tokens<'_>, usize, Level) -> Result<Form, ParseError>> G
         requires inside { Nests self.now.levels (F.pre self.now.inside) (F.post self.now.inside) }
         requires fits { depth_within 2 first ≤ self.now.levels }
         ensures nests { IfOk result (λ members. most_within 2 (map measured members) ≤ self.now.levels) }
-        ensures value { Reads
-            (following first k.Or (spec.conjunction self.now.levels (spec.inside self.now.levels)) tokens.old)
-            result tokens.new }
+        ensures value { Reads result tokens.new
+            (following first k.Or (spec.conjunction self.now.levels (spec.inside self.now.levels)) tokens.old) }
         ensures onward { AreNoMore tokens.old tokens.new }
     {
         let mut members = Items::new(self.alloc);
@@ -267,8 +265,8 @@ impl<F: Fn(Global, &mut Tokens<'_>, usize, Level) -> Result<Form, ParseError>> G
     #[tactic(auto, unfolding(nr_spec_rules::specs::Parsing::chain, crate::specs::Reading::disjunction))]
     fn disjunction(&self, tokens: &mut Tokens<'_>) -> Result<Form, ParseError>
         requires { Nests self.now.levels (F.pre self.now.inside) (F.post self.now.inside) }
-        ensures value { Reads (spec.disjunction self.now.levels (spec.inside self.now.levels) tokens.old)
-            result tokens.new }
+        ensures value { Reads result tokens.new
+            (spec.disjunction self.now.levels (spec.inside self.now.levels) tokens.old) }
         ensures nests { IfOk result (λ form. depth_within 1 form ≤ self.now.levels) }
         ensures onward { AreNoMore tokens.old tokens.new }
     {
@@ -282,8 +280,8 @@ impl<F: Fn(Global, &mut Tokens<'_>, usize, Level) -> Result<Form, ParseError>> G
     #[tactic(auto, unfolding(crate::specs::Reading::formula))]
     fn formula(&self, tokens: &mut Tokens<'_>) -> Result<Form, ParseError>
         requires { Nests self.now.levels (F.pre self.now.inside) (F.post self.now.inside) }
-        ensures value { Reads (spec.formula self.now.levels (spec.inside self.now.levels) tokens.old)
-            result tokens.new }
+        ensures value { Reads result tokens.new
+            (spec.formula self.now.levels (spec.inside self.now.levels) tokens.old) }
         ensures nests { IfOk result (λ form. depth form ≤ self.now.levels) }
         ensures onward { AreNoMore tokens.old tokens.new }
     {
@@ -304,7 +302,7 @@ fn inside(
     levels: usize,
     level: Level,
 ) -> Result<Form, ParseError>
-    ensures value { Reads (spec.inside levels level tokens.old) result tokens.new }
+    ensures value { Reads result tokens.new (spec.inside levels level tokens.old) }
     ensures nests { IfOk result (IsInside levels level) }
     ensures onward { AreNoMore tokens.old tokens.new }
 {
@@ -324,7 +322,7 @@ fn inside(
 
 /// A formula that nests at most 64 levels.
 pub fn whole_formula(alloc: Global, tokens: &mut Tokens<'_>) -> Result<Form, ParseError>
-    ensures value { Reads (spec.whole_formula tokens.old) result tokens.new }
+    ensures value { Reads result tokens.new (spec.whole_formula tokens.old) }
     ensures nests { IfOk result (λ form. depth form ≤ 64) }
     ensures onward { AreNoMore tokens.old tokens.new }
 {

@@ -18,7 +18,7 @@ use std::alloc::Global;
 #[tactic(auto, unfolding(crate::specs::Reading::file_of))]
 pub fn parse(alloc: Global, text: &[u8]) -> Result<File, ParseError>
     requires { length text.now ≤ 1048576 }
-    ensures value { Answers (file_of text.now) result }
+    ensures value { Answers result (file_of text.now) }
     // Each formula nests at most 64 levels.
     ensures nests { IfOk result (λ file. All IsNested file.decls) }
     // Names are written as names, numbers have 32 bits, prefixes are masked, a list that is written has a

@@ -36,7 +36,7 @@ pub fn sees(tokens: &Tokens<'_>, kind: Kind) -> bool
 #[tactic(auto, unfolding(nr_spec_rules::specs::Parsing::expect))]
 pub fn expect(tokens: &mut Tokens<'_>, kind: Kind) -> Result<Span, ParseError>
     requires { goes_on kind ≡ true }
-    ensures value { Reads (parsing.expect kind tokens.old) result tokens.new }
+    ensures value { Reads result tokens.new (parsing.expect kind tokens.old) }
     ensures onward { AreNoMore tokens.old tokens.new }
     ensures shorter { OnOk result (length tokens.new < length tokens.old) }
 {
@@ -50,7 +50,7 @@ pub fn expect(tokens: &mut Tokens<'_>, kind: Kind) -> Result<Span, ParseError>
 
 #[tactic(auto, unfolding(nr_spec_rules::specs::Parsing::valued, crate::specs::Reading::name))]
 pub fn name(alloc: Global, tokens: &mut Tokens<'_>) -> Result<Name, ParseError>
-    ensures value { Reads (spec.name tokens.old) result tokens.new }
+    ensures value { Reads result tokens.new (spec.name tokens.old) }
     ensures onward { AreNoMore tokens.old tokens.new }
 {
     if !sees(tokens, Kind::Name) {
@@ -64,7 +64,7 @@ pub fn name(alloc: Global, tokens: &mut Tokens<'_>) -> Result<Name, ParseError>
 
 #[tactic(auto, unfolding(nr_spec_rules::specs::Parsing::valued, crate::specs::Reading::number))]
 pub fn number(tokens: &mut Tokens<'_>) -> Result<Num, ParseError>
-    ensures value { Reads (spec.number tokens.old) result tokens.new }
+    ensures value { Reads result tokens.new (spec.number tokens.old) }
     ensures onward { AreNoMore tokens.old tokens.new }
 {
     if !sees(tokens, Kind::Number) {
@@ -82,7 +82,7 @@ pub fn number(tokens: &mut Tokens<'_>) -> Result<Num, ParseError>
 
 #[tactic(auto, unfolding(nr_spec_rules::specs::Parsing::valued, crate::specs::Reading::address))]
 pub fn address(tokens: &mut Tokens<'_>) -> Result<Num, ParseError>
-    ensures value { Reads (spec.address tokens.old) result tokens.new }
+    ensures value { Reads result tokens.new (spec.address tokens.old) }
     ensures onward { AreNoMore tokens.old tokens.new }
 {
     if !sees(tokens, Kind::Address) {
@@ -100,7 +100,7 @@ pub fn address(tokens: &mut Tokens<'_>) -> Result<Num, ParseError>
 
 #[tactic(auto, unfolding(nr_spec_rules::specs::Parsing::valued, crate::specs::Reading::community))]
 pub fn community(tokens: &mut Tokens<'_>) -> Result<u32, ParseError>
-    ensures value { Reads (spec.community tokens.old) result tokens.new }
+    ensures value { Reads result tokens.new (spec.community tokens.old) }
     ensures onward { AreNoMore tokens.old tokens.new }
 {
     if !sees(tokens, Kind::Community) {
@@ -117,7 +117,7 @@ pub fn community(tokens: &mut Tokens<'_>) -> Result<u32, ParseError>
 
 #[tactic(auto, unfolding(nr_spec_rules::specs::Parsing::valued, crate::specs::Reading::prefix))]
 pub fn prefix(tokens: &mut Tokens<'_>) -> Result<PrefixText, ParseError>
-    ensures value { Reads (spec.prefix tokens.old) result tokens.new }
+    ensures value { Reads result tokens.new (spec.prefix tokens.old) }
     ensures onward { AreNoMore tokens.old tokens.new }
 {
     if !sees(tokens, Kind::Prefix) {
@@ -138,7 +138,7 @@ pub fn prefix(tokens: &mut Tokens<'_>) -> Result<PrefixText, ParseError>
 
 #[tactic(auto, unfolding(nr_spec_rules::specs::Parsing::valued, crate::specs::Reading::root))]
 pub fn root(tokens: &mut Tokens<'_>) -> Result<RootText, ParseError>
-    ensures value { Reads (spec.root tokens.old) result tokens.new }
+    ensures value { Reads result tokens.new (spec.root tokens.old) }
     ensures onward { AreNoMore tokens.old tokens.new }
 {
     if !sees(tokens, Kind::Root) {
@@ -160,7 +160,7 @@ pub fn root(tokens: &mut Tokens<'_>) -> Result<RootText, ParseError>
 /// `( NAME )`
 #[tactic(auto, unfolding(crate::specs::Reading::argument))]
 pub fn argument(alloc: Global, tokens: &mut Tokens<'_>) -> Result<Name, ParseError>
-    ensures value { Reads (spec.argument tokens.old) result tokens.new }
+    ensures value { Reads result tokens.new (spec.argument tokens.old) }
     ensures onward { AreNoMore tokens.old tokens.new }
 {
     expect(tokens, Kind::OpenParen)?;

@@ -15,7 +15,7 @@ use std::alloc::Global;
 /// A number, an address, `bits`, or a word with a name in parentheses.
 #[tactic(auto, unfolding(crate::specs::Reading::term))]
 pub fn term(alloc: Global, tokens: &mut Tokens<'_>) -> Result<Term, ParseError>
-    ensures value { Reads (spec.term tokens.old) result tokens.new }
+    ensures value { Reads result tokens.new (spec.term tokens.old) }
     ensures onward { AreNoMore tokens.old tokens.new }
 {
     match tokens.kind() {
@@ -63,7 +63,7 @@ pub fn term(alloc: Global, tokens: &mut Tokens<'_>) -> Result<Term, ParseError>
 
 #[tactic(auto, unfolding(crate::specs::Reading::comparison))]
 fn comparison(tokens: &mut Tokens<'_>) -> Result<Cmp, ParseError>
-    ensures value { Reads (spec.comparison tokens.old) result tokens.new }
+    ensures value { Reads result tokens.new (spec.comparison tokens.old) }
     ensures onward { AreNoMore tokens.old tokens.new }
 {
     let op = match tokens.kind() {
@@ -82,7 +82,7 @@ fn comparison(tokens: &mut Tokens<'_>) -> Result<Cmp, ParseError>
 /// `Term Cmp Term`
 #[tactic(auto, unfolding(crate::specs::Reading::compared))]
 pub fn compared(alloc: Global, tokens: &mut Tokens<'_>) -> Result<Form, ParseError>
-    ensures value { Reads (spec.compared tokens.old) result tokens.new }
+    ensures value { Reads result tokens.new (spec.compared tokens.old) }
     ensures nests { IfOk result (λ form. measured form ≡ flat) }
     ensures onward { AreNoMore tokens.old tokens.new }
 {
@@ -95,7 +95,7 @@ pub fn compared(alloc: Global, tokens: &mut Tokens<'_>) -> Result<Form, ParseErr
 /// `sent ( NAME )` or `received ( NAME )`
 #[tactic(auto, unfolding(crate::specs::Reading::route))]
 pub fn route(alloc: Global, tokens: &mut Tokens<'_>) -> Result<(Side, Name), ParseError>
-    ensures value { Reads (spec.route tokens.old) result tokens.new }
+    ensures value { Reads result tokens.new (spec.route tokens.old) }
     ensures onward { AreNoMore tokens.old tokens.new }
 {
     match tokens.kind() {
@@ -114,7 +114,7 @@ pub fn route(alloc: Global, tokens: &mut Tokens<'_>) -> Result<(Side, Name), Par
 /// `has COMMUNITY`, `crosses Term` or `is NAME`, after a name.
 #[tactic(auto, unfolding(crate::specs::Reading::about))]
 pub fn about(alloc: Global, tokens: &mut Tokens<'_>, var: Name) -> Result<Form, ParseError>
-    ensures value { Reads (spec.about var tokens.old) result tokens.new }
+    ensures value { Reads result tokens.new (spec.about var tokens.old) }
     ensures nests { IfOk result (λ form. measured form ≡ flat) }
     ensures onward { AreNoMore tokens.old tokens.new }
 {
@@ -141,7 +141,7 @@ pub fn about(alloc: Global, tokens: &mut Tokens<'_>, var: Name) -> Result<Form, 
 /// `prefix in NAME`
 #[tactic(auto, unfolding(crate::specs::Reading::in_set))]
 pub fn in_set(alloc: Global, tokens: &mut Tokens<'_>) -> Result<Form, ParseError>
-    ensures value { Reads (spec.in_set tokens.old) result tokens.new }
+    ensures value { Reads result tokens.new (spec.in_set tokens.old) }
     ensures nests { IfOk result (λ form. measured form ≡ flat) }
     ensures onward { AreNoMore tokens.old tokens.new }
 {

@@ -44,7 +44,7 @@ so_far_more {f = f} {xs = xs} {i = i} {front = front} h x y lt e g = record {
 }
 
 pub so_far_fails : {A B : Type 0} {f : A → Result B ℕ} {xs : List A} {i : ℕ} {front : List B} → IsSoFar f xs i front
-    → (x : A) (e : TypeError) → i < length xs → x ≡ get_or xs i x → Fails (f x) e → Fails (all_of f xs) e
+    → (x : A) (e : TypeError) → i < length xs → x ≡ get_or xs i x → Fails e (f x) → Fails e (all_of f xs)
 unfolding all_of
 so_far_fails h x Memory lt e g = tt
 so_far_fails {f = f} {xs = xs} {i = i} {front = front} h x (At place) lt e g = sym (rw (first_left xs i x lt e, g) at h.same)
@@ -74,7 +74,7 @@ unfolding in_turn
 way_more {xs = xs} {i = i} h x next lt e g = record { same = rw (first_left xs i x lt e, g) at h.same }
 
 pub way_fails : {A S : Type 0} {step : S → A → Result S ℕ} {start : S} {xs : List A} {i : ℕ} {now : S} → IsOnItsWay step start xs i now
-    → (x : A) (e : TypeError) → i < length xs → x ≡ get_or xs i x → Fails (step now x) e → Fails (in_turn step start xs) e
+    → (x : A) (e : TypeError) → i < length xs → x ≡ get_or xs i x → Fails e (step now x) → Fails e (in_turn step start xs)
 unfolding in_turn
 way_fails h x Memory lt e g = tt
 way_fails {xs = xs} {i = i} h x (At place) lt e g = sym (rw (first_left xs i x lt e, g) at h.same)
@@ -85,7 +85,7 @@ unfolding in_turn
 way_done {xs = xs} h le = sym (rw (drop_of_length-le xs le) at h.same)
 
 -- this of what wasn't found
-pub mapped_fails : {A B : Type 0} (f : A → B) (read : Result A ℕ) (e : TypeError) → Fails read e → Fails (f <$> read) e
+pub mapped_fails : {A B : Type 0} (f : A → B) (read : Result A ℕ) (e : TypeError) → Fails e read → Fails e (f <$> read)
 mapped_fails f read Memory h = tt
 mapped_fails f read (At place) h = ap (λ r. f <$> r) h
 

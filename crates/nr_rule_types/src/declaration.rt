@@ -21,7 +21,7 @@ use std::alloc::Global;
 // `network NUMBER ;`
 #[tactic(auto, unfolding(nr_spec_typing::specs::Declarations::network))]
 fn network<'a>(mut known: Known<'a>, value: &Num, span: Span) -> Result<Known<'a>, TypeError>
-    ensures { Answers (spec.network known.entry value.now span) result }
+    ensures { Answers result (spec.network known.entry value.now span) }
 {
     if known.network.is_some() {
         return Err(at(span));
@@ -33,7 +33,7 @@ fn network<'a>(mut known: Known<'a>, value: &Num, span: Span) -> Result<Known<'a
 // `commit NUMBER ;`
 #[tactic(auto, unfolding(nr_spec_typing::specs::Declarations::commit))]
 fn commit<'a>(mut known: Known<'a>, value: &Num, span: Span) -> Result<Known<'a>, TypeError>
-    ensures { Answers (spec.commit known.entry value.now span) result }
+    ensures { Answers result (spec.commit known.entry value.now span) }
 {
     if known.commit.is_some() {
         return Err(at(span));
@@ -44,7 +44,7 @@ fn commit<'a>(mut known: Known<'a>, value: &Num, span: Span) -> Result<Known<'a>
 
 fn declaration<'a>(alloc: Global, known: Known<'a>, decl: &'a Decl) -> Result<Known<'a>, TypeError>
     requires { IsNested decl.now }
-    ensures value { Answers (spec.declaration known.entry decl.now) result }
+    ensures value { Answers result (spec.declaration known.entry decl.now) }
     ensures range { IfOk result (λ more. FitsLengths decl.now) }
 {
     match decl {
@@ -70,7 +70,7 @@ fn declaration<'a>(alloc: Global, known: Known<'a>, decl: &'a Decl) -> Result<Kn
 /// What the declarations of a text say. Where they say something, no prefix of a set is longer than 32 bits.
 pub fn declarations<'a>(alloc: Global, decls: &'a [Decl]) -> Result<Known<'a>, TypeError>
     requires { All IsNested decls.now }
-    ensures value { Answers (spec.declarations decls.now) result }
+    ensures value { Answers result (spec.declarations decls.now) }
     ensures range { IfOk result (λ known. All FitsLengths decls.now) }
 {
     let mut known = Known::new(alloc);

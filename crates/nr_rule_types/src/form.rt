@@ -19,7 +19,7 @@ use std::alloc::Global;
 #[cycle(form)]
 fn held(alloc: Global, scope: &mut Scope<'_, '_>, form: &Form) -> Result<Boxed<Typing>, TypeError>
     requires levels { length scope.old.variables + depth form.now ≤ 64 }
-    ensures value { Answers (spec.typed form.now scope.old) result }
+    ensures value { Answers result (spec.typed form.now scope.old) }
     ensures kept { OnOk result (scope.new ≡ scope.old) }
 {
     Ok(Boxed::new(alloc, typed(alloc, scope, form)?)?)
@@ -33,7 +33,7 @@ fn each(
     members: &[Form],
 ) -> Result<Items<Typing>, TypeError>
     requires levels { length scope.old.variables + deepest members.now ≤ 64 }
-    ensures value { Answers (spec.each (map spec.typed members.now) scope.old) result }
+    ensures value { Answers result (spec.each (map spec.typed members.now) scope.old) }
     ensures kept { OnOk result (scope.new ≡ scope.old) }
 {
     let mut items = Items::new(alloc);
@@ -53,7 +53,7 @@ fn within(
     form: &Form,
 ) -> Result<Boxed<Typing>, TypeError>
     requires levels { length scope.old.variables + depth form.now < 64 }
-    ensures value { Answers (spec.typed form.now (bind scope.old bound var.now)) result }
+    ensures value { Answers result (spec.typed form.now (bind scope.old bound var.now)) }
     ensures kept { OnOk result (scope.new ≡ scope.old) }
 {
     let depth = scope.depth();
@@ -74,7 +74,7 @@ fn over_group(
     form: &Form,
 ) -> Result<(Shared<u16>, Boxed<Typing>), TypeError>
     requires levels { length scope.old.variables + depth form.now < 64 }
-    ensures value { Answers (spec.over_group var.now among.now (spec.typed form.now) scope.old) result }
+    ensures value { Answers result (spec.over_group var.now among.now (spec.typed form.now) scope.old) }
     ensures kept { OnOk result (scope.new ≡ scope.old) }
 {
     scope.check_new(var)?;
@@ -88,7 +88,7 @@ fn over_group(
 #[tactic(auto, unfolding(nr_spec_typing::specs::Forms::implies, nr_spec_typing::specs::Forms::conditional))]
 pub fn typed(alloc: Global, scope: &mut Scope<'_, '_>, form: &Form) -> Result<Typing, TypeError>
     requires levels { length scope.old.variables + depth form.now ≤ 64 }
-    ensures value { Answers (spec.typed form.now scope.old) result }
+    ensures value { Answers result (spec.typed form.now scope.old) }
     ensures kept { OnOk result (scope.new ≡ scope.old) }
 {
     match form {

@@ -15,7 +15,7 @@ const MOST_GROUPS: usize = 64;
 
 // A neighbour that a group didn't name before.
 fn member(names: &Names<'_>, before: &[u16], name: &Name) -> Result<u16, TypeError>
-    ensures { Answers (spec.member names.now before.now name.now) result }
+    ensures { Answers result (spec.member names.now before.now name.now) }
 {
     match names.find(name.word.bytes()) {
         Some(Named::Neighbour(n)) if !before.contains(n) => Ok(*n),
@@ -25,7 +25,7 @@ fn member(names: &Names<'_>, before: &[u16], name: &Name) -> Result<u16, TypeErr
 
 // The members of a group.
 fn members(alloc: Global, names: &Names<'_>, texts: &[Name]) -> Result<Shared<u16>, TypeError>
-    ensures { Answers (spec.members names.now texts.now) result }
+    ensures { Answers result (spec.members names.now texts.now) }
 {
     let mut numbers = Vec::new(alloc);
     for text in texts {
@@ -43,7 +43,7 @@ pub fn group<'a>(
     name: &'a Name,
     texts: &[Name],
 ) -> Result<Known<'a>, TypeError>
-    ensures { Answers (spec.group known.entry name.now texts.now) result }
+    ensures { Answers result (spec.group known.entry name.now texts.now) }
 {
     if !known.names.is_new(name) || known.names.groups() >= MOST_GROUPS {
         return Err(at(name.span));

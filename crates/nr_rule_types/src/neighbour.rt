@@ -60,7 +60,7 @@ fn is_neighbour_name(
 
 // The root of a key and its number.
 fn key_of(key: &Option<(RootText, Num)>) -> Result<Option<(Digest, u16)>, TypeError>
-    ensures { Answers (spec.key_of key.now) result }
+    ensures { Answers result (spec.key_of key.now) }
 {
     match key {
         None => Ok(None),
@@ -81,7 +81,7 @@ pub fn neighbour<'a>(
     addr: &Num,
     key: &Option<(RootText, Num)>,
 ) -> Result<Known<'a>, TypeError>
-    ensures { Answers (spec.neighbour known.entry name.now asn.now addr.now key.now) result }
+    ensures { Answers result (spec.neighbour known.entry name.now asn.now addr.now key.now) }
 {
     if !is_neighbour_name(&known, name, asn, addr, key) {
         return Err(at(name.span));

@@ -12,7 +12,7 @@ pub const MOST_SECONDS: u32 = 31_536_000;
 
 /// A number of at most this value.
 pub fn at_most(most: u32, n: &Num) -> Result<u32, TypeError>
-    ensures value { Answers (spec.at_most most n.now) result }
+    ensures value { Answers result (spec.at_most most n.now) }
     ensures bound { IfOk result (λ n. n ≤ most) }
 {
     if n.value > most {

@@ -34,7 +34,7 @@ fn prefixes(alloc: Global, texts: &[PrefixText]) -> Result<Items<Prefix>, AllocE
 
 // The prefixes after `at`, 1,024 at most.
 fn places(alloc: Global, texts: &[PrefixText]) -> Result<Items<Prefix>, TypeError>
-    ensures { Answers (spec.places texts.now) result }
+    ensures { Answers result (spec.places texts.now) }
 {
     if let Some(text) = sqlite_items::at(texts, MOST_PLACES) {
         return Err(at(text.span));
@@ -53,7 +53,7 @@ pub fn promise<'a>(
     form: &Form,
 ) -> Result<Known<'a>, TypeError>
     requires { depth form.now ≤ 64 }
-    ensures { Answers (spec.promise known.entry name.now grace.now texts.now form.now) result }
+    ensures { Answers result (spec.promise known.entry name.now grace.now texts.now form.now) }
 {
     if !known.names.is_new(name) || known.promises.len() >= MOST_PROMISES {
         return Err(at(name.span));

@@ -84,7 +84,7 @@ impl<'n, 'a> Scope<'n, 'a> {
     /// A neighbour: a variable that stands for one, or its name.
     #[tactic(auto, unfolding(nr_spec_typing::specs::Scopes::who))]
     pub fn who(&self, name: &Name) -> Result<Who, TypeError>
-        ensures { Answers (spec.who self.now name.now) result }
+        ensures { Answers result (spec.who self.now name.now) }
     {
         if let Some(var) = self.variable(Bound::Neighbour, name) {
             return Ok(Who::Var(var));
@@ -98,7 +98,7 @@ impl<'n, 'a> Scope<'n, 'a> {
     /// A route: a variable that stands for one.
     #[tactic(auto, unfolding(nr_spec_typing::specs::Scopes::route))]
     pub fn route(&self, name: &Name) -> Result<u8, TypeError>
-        ensures { Answers (spec.route self.now name.now) result }
+        ensures { Answers result (spec.route self.now name.now) }
     {
         self.variable(Bound::Route, name).ok_or(at(name.span))
     }
@@ -106,7 +106,7 @@ impl<'n, 'a> Scope<'n, 'a> {
     /// The numbers of a group's neighbours.
     #[tactic(auto, unfolding(nr_spec_typing::specs::Scopes::group))]
     pub fn group(&self, name: &Name) -> Result<Shared<u16>, TypeError>
-        ensures { Answers (spec.group self.now name.now) result }
+        ensures { Answers result (spec.group self.now name.now) }
     {
         match self.names.find(name.word.bytes()) {
             Some(Named::Group(members)) => Ok(members.share()?),
@@ -117,7 +117,7 @@ impl<'n, 'a> Scope<'n, 'a> {
     /// The patterns of a set of prefixes.
     #[tactic(auto, unfolding(nr_spec_typing::specs::Scopes::set))]
     pub fn set(&self, name: &Name) -> Result<Shared<Pattern>, TypeError>
-        ensures { Answers (spec.set self.now name.now) result }
+        ensures { Answers result (spec.set self.now name.now) }
     {
         match self.names.find(name.word.bytes()) {
             Some(Named::Define(patterns)) => Ok(patterns.share()?),
@@ -135,7 +135,7 @@ impl<'n, 'a> Scope<'n, 'a> {
     /// A variable has to have a name that no declaration before it and no variable around has.
     #[tactic(auto, unfolding(nr_spec_typing::specs::Scopes::new_variable))]
     pub fn check_new(&self, name: &Name) -> Result<(), TypeError>
-        ensures { Gives (spec.new_variable self.now name.now) result name.now }
+        ensures { Gives result name.now (spec.new_variable self.now name.now) }
     {
         if !self.names.is_new(name) || self.is_bound(name.word.bytes()) {
             return Err(at(name.span));

@@ -22,7 +22,7 @@ const MOST_LENGTH: u32 = 32;
 
 // The greatest length of a pattern.
 fn most_of(len: u8, most: &Option<Num>) -> Result<u8, TypeError>
-    ensures { Answers (spec.most_of len most.now) result }
+    ensures { Answers result (spec.most_of len most.now) }
 {
     match most {
         None => Ok(len),
@@ -33,7 +33,7 @@ fn most_of(len: u8, most: &Option<Num>) -> Result<u8, TypeError>
 
 // `PREFIX [ le NUMBER ]`
 fn pattern(text: &PatternText) -> Result<Pattern, TypeError>
-    ensures value { Answers (spec.pattern text.now) result }
+    ensures value { Answers result (spec.pattern text.now) }
     ensures range { FitsLength text.now }
 {
     let most = most_of(text.prefix.len(), &text.most)?;
@@ -45,7 +45,7 @@ fn pattern(text: &PatternText) -> Result<Pattern, TypeError>
 
 // The patterns of a set of prefixes.
 fn patterns(alloc: Global, texts: &[PatternText]) -> Result<Shared<Pattern>, TypeError>
-    ensures value { Answers (all_of spec.pattern texts.now) result }
+    ensures value { Answers result (all_of spec.pattern texts.now) }
     ensures range { IfOk result (λ set. All FitsLength texts.now) }
 {
     let mut patterns = Vec::new(alloc);
@@ -63,7 +63,7 @@ pub fn define<'a>(
     name: &'a Name,
     texts: &[PatternText],
 ) -> Result<Known<'a>, TypeError>
-    ensures value { Answers (spec.define known.entry name.now texts.now) result }
+    ensures value { Answers result (spec.define known.entry name.now texts.now) }
     ensures range { IfOk result (λ more. All FitsLength texts.now) }
 {
     if !known.names.is_new(name) || known.names.defines() >= MOST_DEFINES {

@@ -10,7 +10,7 @@ use nr_spec_typing::{Typing, Value};
 
 /// A number.
 pub fn value(scope: &Scope<'_, '_>, term: &Term) -> Result<Value, TypeError>
-    ensures { Answers (spec.value scope.now term.now) result }
+    ensures { Answers result (spec.value scope.now term.now) }
 {
     match term {
         Term::Number(n) => Ok(Value::Number(n.value)),
@@ -29,7 +29,7 @@ pub fn value(scope: &Scope<'_, '_>, term: &Term) -> Result<Value, TypeError>
 /// `NAME crosses Term`
 #[tactic(auto, unfolding(nr_spec_typing::specs::Forms::crosses))]
 pub fn crosses(scope: &Scope<'_, '_>, var: &Name, term: &Term) -> Result<Typing, TypeError>
-    ensures { Answers (spec.crosses var.now term.now scope.now) result }
+    ensures { Answers result (spec.crosses var.now term.now scope.now) }
 {
     let route = scope.route(var)?;
     let term = value(scope, term)?;
@@ -39,7 +39,7 @@ pub fn crosses(scope: &Scope<'_, '_>, var: &Name, term: &Term) -> Result<Typing,
 /// `NAME is NAME`
 #[tactic(auto, unfolding(nr_spec_typing::specs::Forms::is_same))]
 pub fn is_same(scope: &Scope<'_, '_>, left: &Name, right: &Name) -> Result<Typing, TypeError>
-    ensures { Answers (spec.is_same left.now right.now scope.now) result }
+    ensures { Answers result (spec.is_same left.now right.now scope.now) }
 {
     let left = scope.who(left)?;
     let right = scope.who(right)?;
@@ -54,7 +54,7 @@ pub fn compared(
     op: Cmp,
     right: &Term,
 ) -> Result<Typing, TypeError>
-    ensures { Answers (spec.compared left.now op right.now scope.now) result }
+    ensures { Answers result (spec.compared left.now op right.now scope.now) }
 {
     let left = value(scope, left)?;
     let right = value(scope, right)?;

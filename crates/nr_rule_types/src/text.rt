@@ -103,7 +103,7 @@ impl Typed {
 #[tactic(auto, unfolding(nr_spec_typing::specs::Declarations::typed_text))]
 pub fn check(alloc: Global, file: &File) -> Result<Typed, TypeError>
     requires { All IsNested file.now.decls }
-    ensures value { Answers (typed_text file.now) result }
+    ensures value { Answers result (typed_text file.now) }
     ensures typed { IfOk result IsTyped }
 {
     typed_texts_fit();

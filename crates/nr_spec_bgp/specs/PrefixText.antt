@@ -3,6 +3,7 @@ use Rattle.std.specs.Prelude.{ℕ, ◌+◌, ◌-◌, ◌*◌, ◌/◌, ◌%◌, 
 use Rattle.std.specs.List.{prefix_len}
 use Rattle.std.specs.Char.{is_ascii_digit}
 use Rattle.std.specs.Fmt.{decimal}
+use Rattle.nr_spec_wire.specs.Optional.{◌>>=◌}
 use Rattle.nr_spec_bgp.specs.Prefixes.{Cidr, masked}
 
 -- the four bytes of an address, the highest first, with `.` between them
@@ -16,11 +17,6 @@ abbrev pub cidr_text : Cidr → List ℕ
 cidr_text p = address_text p.addr ++ 47 ∷ decimal p.len
 
 -- ---- reading
-
-infixl 10 ◌>>=◌
-abbrev pub ◌>>=◌ : {A B : Type 0} → Option A → (A → Option B) → Option B
-None >>= f = None
-(Some x) >>= f = f x
 
 -- the number that one to three digits write, of which the first isn't 0 where others follow
 abbrev pub numeral : List ℕ → Option ℕ

@@ -40,7 +40,8 @@ most_counted = 9223372036854775808
 -- the numbers of a promise file, in the ranges of a PROMISE
 abbrev pub IsForce : Option Numbers → Type 0
 IsForce None = Unit {0}
-IsForce (Some force) = (length force.digest ≡ digest_size) × (force.count ≤ most_neighbours) × (force.delay ≤ most_delay)
+IsForce (Some force) =
+    (length force.digest ≡ digest_size) × (force.count ≤ most_neighbours) × (force.delay ≤ most_delay)
 
 abbrev pub IsOldest : Option ℕ → Type 0
 IsOldest None = Unit {0}

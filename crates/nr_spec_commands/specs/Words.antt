@@ -4,14 +4,9 @@ use Rattle.std.specs.Result.{result_ok}
 use Rattle.std.specs.Str.{bytes_eq, all_ascii_digits}
 use Rattle.std.specs.Str.Parse.{digits_value}
 use Rattle.hex.specs.Hex.{decode_sized}
+use Rattle.nr_spec_wire.specs.Optional.{◌>>=◌}
 use Rattle.nr_spec_history.specs.Conflicts.{Period}
 use Rattle.nr_words.specs.Grammar.{Grammar, OptionRule, Values, values_in}
-
--- one step after another: what isn't there ends them
-infixl 10 ◌>>=◌
-abbrev pub ◌>>=◌ : {A B : Type 0} → Option A → (A → Option B) → Option B
-None >>= f = None
-(Some x) >>= f = f x
 
 -- ---- numbers
 

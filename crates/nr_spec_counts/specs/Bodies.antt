@@ -26,7 +26,8 @@ tally_piece t n = neighbour_bytes (t.sends n) (t.acked n) (t.oldest n)
 
 abbrev pub row_bytes : Row → List ℕ
 row_bytes (key, b) =
-    big_bytes 1 key.prefix.len ++ (big_bytes 4 key.prefix.addr ++ (big_bytes 1 (direction_number key.direction) ++ (big_bytes 2 key.neighbour
+    big_bytes 1 key.prefix.len ++ (big_bytes 4 key.prefix.addr
+    ++ (big_bytes 1 (direction_number key.direction) ++ (big_bytes 2 key.neighbour
     ++ (big_bytes 1 (flag b.as4) ++ (big_bytes 2 (length b.block) ++ b.block)))))
 
 unfoldable pub checkpoint_body : Tally → List Row → List ℕ

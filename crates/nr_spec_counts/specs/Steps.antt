@@ -9,7 +9,8 @@ abbrev pub counted : Tally → Option Content → ℕ → Tally
 counted t c time = record {
   sends = λ n. t.sends n + (if is_send_to n c then 1 else 0);
   acked = λ n. unwrap_or (ack_from n c) (t.acked n);
-  oldest = λ n. if is_commit_to n c then None else later_or (t.oldest n) (if is_exchange_with n c then Some time else None);
+  oldest = λ n.
+      if is_commit_to n c then None else later_or (t.oldest n) (if is_exchange_with n c then Some time else None);
   commits = t.commits + (if is_commit c then 1 else 0);
   in_force = later_or (promise_in c) t.in_force;
   last = time;

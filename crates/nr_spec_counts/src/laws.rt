@@ -19,7 +19,8 @@ pub fn one_more_entry_is_counted()
 /// The body of no rows has 6,463 bytes.
 #[tactic(auto, using(crate::proofs::Sizes::no_rows_size))]
 pub fn the_body_of_no_rows_has_6463_bytes()
-    ensures { (t : Tally) → IfSome t.in_force (λ f. length f.digest ≡ digest_size) → length (checkpoint_body t []) ≡ 6463 }
+    ensures { (t : Tally) → IfSome t.in_force (λ f. length f.digest ≡ digest_size)
+        → length (checkpoint_body t []) ≡ 6463 }
 {}
 
 /// A neighbour is overdue exactly where a promise is in force that declares it, and its oldest message waits for longer
@@ -27,5 +28,6 @@ pub fn the_body_of_no_rows_has_6463_bytes()
 #[tactic(auto, using(crate::proofs::Waits::overdue_is))]
 pub fn overdue_neighbours()
     ensures { (t : Tally) (time n : ℕ) → IsTrue (is_overdue t time t.in_force n) ↔ ((force : Numbers) × (since : ℕ)
-        × (t.in_force ≡ Some force) × (n < force.count) × (t.oldest n ≡ Some since) × (since + force.delay * 1000000 < time)) }
+        × (t.in_force ≡ Some force) × (n < force.count) × (t.oldest n ≡ Some since)
+        × (since + force.delay * 1000000 < time)) }
 {}

@@ -9,18 +9,21 @@ abbrev pub Now : Disk → (Moment → Type 0) → Type 0
 Now d Q = (t : Told) × (d.told ≡ Some t) × Q (moment_of t)
 
 -- of what follows a step that went well, and of what one leaves that failed
-abbrev pub SometimeAfter : {A : Type 0} → Result A Fault → (A → Disk → (Moment → Type 0) → Type 0) → Disk → (Moment → Type 0) → Type 0
+abbrev pub SometimeAfter : {A : Type 0} → Result A Fault → (A → Disk → (Moment → Type 0) → Type 0) → Disk
+    → (Moment → Type 0) → Type 0
 SometimeAfter (Ok answer) next mid Q = next answer mid Q
 SometimeAfter (Err fault) next mid Q = Now mid Q
 
--- Some moment of a plan has Q: one before its first step, or after it, or of what follows, whatever the step answered. A moment
--- within a step is as one after the same step where it failed.
+-- Some moment of a plan has Q: one before its first step, or after it, or of what follows, whatever the step answered.
+-- A moment within a step is as one after the same step where it failed.
 unfoldable pub Sometime : {E A : Type 0} → Plan E A → Disk → (Moment → Type 0) → Type 0
 Sometime (Done value) old Q = Now old Q
 Sometime (Refuse refusal) old Q = Now old Q
 Sometime (Room next) old Q = Sometime next old Q
 Sometime (Act action next) old Q =
-    Now old Q ⊎ ((mid : Disk) × (got : Result (Answer action) Fault) × Acts action old mid got × SometimeAfter got (λ answer. Sometime (next answer)) mid Q)
+    Now old Q
+    ⊎ ((mid : Disk) × (got : Result (Answer action) Fault) × Acts action old mid got
+    × SometimeAfter got (λ answer. Sometime (next answer)) mid Q)
 
 -- A crash now may leave these bytes under a name.
 abbrev pub MayLeave : Disk → (name image : List ℕ) → Type 0
@@ -42,7 +45,8 @@ Any (moment ∷ others) Q = Q moment ⊎ Any others Q
 
 -- Some moment has Q, now or since there were so many moments in the past.
 abbrev pub Since : ℕ → Told → (Moment → Type 0) → Type 0
-Since clock t Q = Q (moment_of t) ⊎ ((past : List Moment) × (t.past ≡ Some past) × Any (take (length past - clock) past) Q)
+Since clock t Q =
+    Q (moment_of t) ⊎ ((past : List Moment) × (t.past ≡ Some past) × Any (take (length past - clock) past) Q)
 
 -- ---- files that rest
 

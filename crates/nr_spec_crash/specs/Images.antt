@@ -7,9 +7,9 @@ use Rattle.nr_spec_plans.specs.Disk.{Loose, Moment, Range, bytes_of}
 abbrev pub is_in : ℕ → List Range → Bool
 is_in place ranges = list_any (λ range. nat_le range.from place && nat_lt place range.to) ranges
 
--- A crash may leave these bytes of a file of which a read gives those: the length lies between the least and the greatest since
--- the last sync, and each byte below the least length that wasn't written since then stays. So what was written, and what
--- stands past the least length, may be any bytes.
+-- A crash may leave these bytes of a file of which a read gives those: the length lies between the least and the
+-- greatest since the last sync, and each byte below the least length that wasn't written since then stays. So what was
+-- written, and what stands past the least length, may be any bytes.
 pub record IsImageOf (l : Loose) (file image : List ℕ) : Type 0 where
   pub no_shorter : l.least ≤ length image
   pub no_longer : length image ≤ l.greatest

@@ -120,7 +120,7 @@ step_answers (Write name at bytes) old new answer t is told acts = absurd is
 step_answers (Sync name) old new answer t is told acts = absurd is
 
 pub gives_outcome : {E A : Type 0} (p : Plan E A) (held : Contents) (old new : Disk) (result : Result A (Halt E)) → Each IsRead p → option_map (λ t. t.holds) old.told ≡ Some held
-    → Runs p old new result → Gives (outcome held p) result
+    → Runs p old new result → Gives result (outcome held p)
 unfolding Runs
 gives_outcome (Done value) held old new result each told (same, is) = rw is refl
 gives_outcome (Refuse refusal) held old new result each told (same, is) = rw is refl
@@ -131,7 +131,7 @@ gives_outcome (Act action next) held old new result (kind, each) told (mid, Ok a
     let t = told_holds old.told held told in
     let e : answer ≡ answer_of held action = step_answers action old mid answer t.0 kind t.1 acts ∙ ap (λ (h : Contents). answer_of h action) t.2 in
     let now : option_map (λ t. t.holds) mid.told ≡ Some held = (step_unchanged action old mid (Ok answer) kind acts).holds ∙ told in
-    subst (λ (a : Answer action). Gives (outcome held (next a)) result) e (gives_outcome (next answer) held mid new result (each answer) now goes)
+    subst (λ (a : Answer action). Gives result (outcome held (next a))) e (gives_outcome (next answer) held mid new result (each answer) now goes)
 
 -- ---- one plan after another, taken apart
 

@@ -71,7 +71,8 @@ pub data Fault : Type 0 where
 abbrev pub counting : {A : Type 0} → Result A Fault → Disk → Disk
 counting (Ok x) d = d
 counting (Err ReadFault) d = record { told = d.told; read_faults = more 1 d.read_faults; write_faults = d.write_faults }
-counting (Err WriteFault) d = record { told = d.told; read_faults = d.read_faults; write_faults = more 1 d.write_faults }
+counting (Err WriteFault) d =
+    record { told = d.told; read_faults = d.read_faults; write_faults = more 1 d.write_faults }
 counting (Err Memory) d = d
 
 -- other things told
@@ -88,7 +89,16 @@ FailsListed old got = (t : Told) → old.told ≡ Some t → IsTrue (is_listed t
 
 -- some calls later
 abbrev pub ticking : ℕ → Told → Told
-ticking calls t = record { holds = t.holds; loose = t.loose; past = t.past; asks = t.asks; reads = t.reads; calls = more calls t.calls; listed = t.listed }
+ticking calls t =
+    record {
+      holds = t.holds;
+      loose = t.loose;
+      past = t.past;
+      asks = t.asks;
+      reads = t.reads;
+      calls = more calls t.calls;
+      listed = t.listed;
+    }
 
 abbrev pub ticked : ℕ → Disk → Disk
 ticked calls d = telling (option_map (ticking calls) d.told) d
@@ -97,14 +107,32 @@ ticked calls d = telling (option_map (ticking calls) d.told) d
 
 -- a size was asked for once more
 abbrev pub asking : Told → Told
-asking t = record { holds = t.holds; loose = t.loose; past = t.past; asks = more 1 t.asks; reads = t.reads; calls = more 1 t.calls; listed = t.listed }
+asking t =
+    record {
+      holds = t.holds;
+      loose = t.loose;
+      past = t.past;
+      asks = more 1 t.asks;
+      reads = t.reads;
+      calls = more 1 t.calls;
+      listed = t.listed;
+    }
 
 abbrev pub asked : Disk → Disk
 asked d = telling (option_map asking d.told) d
 
 -- n bytes more were given
 abbrev pub reading : ℕ → Told → Told
-reading n t = record { holds = t.holds; loose = t.loose; past = t.past; asks = t.asks; reads = more n t.reads; calls = t.calls; listed = t.listed }
+reading n t =
+    record {
+      holds = t.holds;
+      loose = t.loose;
+      past = t.past;
+      asks = t.asks;
+      reads = more n t.reads;
+      calls = t.calls;
+      listed = t.listed;
+    }
 
 abbrev pub read : ℕ → Disk → Disk
 read n d = telling (option_map (reading n) d.told) d
@@ -133,13 +161,15 @@ abbrev pub filled : List ℕ → ℕ → ℕ → List ℕ → List ℕ
 filled bytes at n buffer = take n (drop at bytes) ++ drop n buffer
 
 -- Reads as many bytes as fit from a place on into the front of a buffer.
-pub record GivesAt (name : List ℕ) (at : ℕ) (before after : List ℕ) (old new : Disk) (got : Result ℕ Fault) : Type 0 where
-  pub count : (t : Told) → old.told ≡ Some t → IfOk got (λ n. n ≡ min (length before) (length (bytes_of (t.holds name)) - at))
-  pub bytes : (t : Told) → old.told ≡ Some t → IfOk got (λ n. after ≡ filled (bytes_of (t.holds name)) at n before)
-  pub within : IfOk got (λ n. n ≤ length before)
-  pub leaves : new ≡ counting got (given got (ticked 1 old))
-  pub cause : IsReading got
-  pub listed : FailsListed old got
+pub record GivesAt (name : List ℕ) (at : ℕ) (before after : List ℕ) (old new : Disk) (got : Result ℕ Fault) : Type 0
+  where
+    pub count : (t : Told) → old.told ≡ Some t
+        → IfOk got (λ n. n ≡ min (length before) (length (bytes_of (t.holds name)) - at))
+    pub bytes : (t : Told) → old.told ≡ Some t → IfOk got (λ n. after ≡ filled (bytes_of (t.holds name)) at n before)
+    pub within : IfOk got (λ n. n ≤ length before)
+    pub leaves : new ≡ counting got (given got (ticked 1 old))
+    pub cause : IsReading got
+    pub listed : FailsListed old got
 
 -- ---- calls that write
 
@@ -199,11 +229,15 @@ settled bytes = record { least = length bytes; greatest = length bytes; written 
 abbrev pub reached : ℕ → Loose → Loose
 reached len l = record { least = min l.least len; greatest = max l.greatest len; written = l.written }
 
--- Bytes were written from a place on into a file of this length, or may have been: a write that failed counts as one that went
--- well.
+-- Bytes were written from a place on into a file of this length, or may have been: a write that failed counts as one
+-- that went well.
 abbrev pub loose_by_write : (at n len : ℕ) → Loose → Loose
 loose_by_write at n len l =
-    reached (max len (at + n)) (record { least = l.least; greatest = l.greatest; written = l.written ++ record { from = at; to = at + n } ∷ [] })
+    reached (max len (at + n)) (record {
+      least = l.least;
+      greatest = l.greatest;
+      written = l.written ++ record { from = at; to = at + n } ∷ [];
+    })
 
 -- A file of this length was cut, or may have been.
 abbrev pub loose_by_cut : (to len : ℕ) → Loose → Loose
@@ -215,8 +249,8 @@ size_of t name = length (bytes_of (t.holds name))
 
 -- ---- what calls that write leave
 
--- What a call leaves of what is told: all that the call is to do, or any part of that where it failed, or what was where it
--- found no memory.
+-- What a call leaves of what is told: all that the call is to do, or any part of that where it failed, or what was
+-- where it found no memory.
 abbrev pub Leaves : Result (Unit {0}) Fault → (done torn : Told → Told → Type 0) → Told → Told → Type 0
 Leaves (Ok x) done torn t u = done t u
 Leaves (Err ReadFault) done torn t u = ⊥
@@ -233,12 +267,15 @@ pub record Writing (done torn : Told → Told → Type 0) (old new : Disk) (got 
 
 abbrev pub Writes : (name : List ℕ) (at : ℕ) (from : List ℕ) (old new : Disk) → Result (Unit {0}) Fault → Type 0
 Writes name at from =
-    Writing (λ t u. ChangesOnly name (λ file. file ≡ Some (written at from (bytes_of (t.holds name)))) (loose_by_write at (length from) (size_of t name) (t.loose name)) t u)
-    (λ t u. ChangesOnly name (Torn (TornWrite at (length from)) (t.holds name)) (loose_by_write at (length from) (size_of t name) (t.loose name)) t u)
+    Writing (λ t u. ChangesOnly name (λ file. file ≡ Some (written at from (bytes_of (t.holds name))))
+    (loose_by_write at (length from) (size_of t name) (t.loose name)) t u)
+    (λ t u. ChangesOnly name (Torn (TornWrite at (length from)) (t.holds name))
+    (loose_by_write at (length from) (size_of t name) (t.loose name)) t u)
 
 abbrev pub Cuts : (name : List ℕ) (len : ℕ) (old new : Disk) → Result (Unit {0}) Fault → Type 0
 Cuts name len =
-    Writing (λ t u. ChangesOnly name (λ file. file ≡ cut_to len (t.holds name)) (loose_by_cut len (size_of t name) (t.loose name)) t u)
+    Writing (λ t u. ChangesOnly name (λ file. file ≡ cut_to len (t.holds name))
+    (loose_by_cut len (size_of t name) (t.loose name)) t u)
     (λ t u. ChangesOnly name (Torn (TornCut len) (t.holds name)) (loose_by_cut len (size_of t name) (t.loose name)) t u)
 
 -- A sync that went well leaves what a read gives, and all of that is on the disk.
@@ -286,16 +323,18 @@ taking piece t = record { told = option_map (taking_in piece) t.told; faults = t
 abbrev pub failing : Tape → Tape
 failing t = record { told = t.told; faults = more 1 t.faults }
 
--- A sink was offered a piece. It took its first n bytes, one at least where it isn't empty; some first bytes where it failed; and
--- none where it found no memory.
+-- A sink was offered a piece. It took its first n bytes, one at least where it isn't empty; some first bytes where it
+-- failed; and none where it found no memory.
 abbrev pub Takes : List ℕ → Tape → Tape → Result ℕ Fault → Type 0
-Takes piece old new (Ok n) = (n ≤ length piece) × (0 < length piece → 0 < n) × (new ≡ taking (take n piece) (offered piece old))
+Takes piece old new (Ok n) =
+    (n ≤ length piece) × (0 < length piece → 0 < n) × (new ≡ taking (take n piece) (offered piece old))
 Takes piece old new (Err ReadFault) = ⊥
 Takes piece old new (Err WriteFault) = (n : ℕ) × (new ≡ failing (taking (take n piece) (offered piece old)))
 Takes piece old new (Err Memory) = new ≡ offered piece old
 
--- A sink was offered a text, piece after piece and none of them empty: it took it whole; or it failed, or found no memory, and
--- took some first bytes, in the last case not all. Nothing more was offered then, and a text without bytes was not offered.
+-- A sink was offered a text, piece after piece and none of them empty: it took it whole; or it failed, or found no
+-- memory, and took some first bytes, in the last case not all. Nothing more was offered then, and a text without bytes
+-- was not offered.
 abbrev pub Offers : List ℕ → Tape → Tape → Result (Unit {0}) Fault → Type 0
 Offers text old new (Ok x) = new ≡ taking text old
 Offers text old new (Err ReadFault) = ⊥

@@ -66,10 +66,10 @@ outcome held (Room next) = outcome held next
 outcome held (Act action next) = outcome held (next (answer_of held action))
 
 -- it gave that, or ended by a fault or for want of memory
-abbrev pub Gives : {E A : Type 0} → Result A E → Result A (Halt E) → Type 0
-Gives decided (Ok value) = decided ≡ Ok value
-Gives decided (Err (Refused refusal)) = decided ≡ Err refusal
-Gives decided (Err (Faulted fault)) = Unit {0}
+abbrev pub Gives : {E A : Type 0} → Result A (Halt E) → Result A E → Type 0
+Gives (Ok value) decided = decided ≡ Ok value
+Gives (Err (Refused refusal)) decided = decided ≡ Err refusal
+Gives (Err (Faulted fault)) decided = Unit {0}
 
 -- ---- a file that is written in whole
 
@@ -103,10 +103,11 @@ Ends P (Refuse refusal) = Unit {0}
 Ends P (Room next) = Ends P next
 Ends P (Act action next) = (answer : Answer action) → Ends P (next answer)
 
--- What writing these bytes to a file in whole may leave of it, whatever stopped that: what was there, what a cut to nothing
--- that failed leaves, what a write to an empty file that failed leaves, or the bytes.
+-- What writing these bytes to a file in whole may leave of it, whatever stopped that: what was there, what a cut to
+-- nothing that failed leaves, what a write to an empty file that failed leaves, or the bytes.
 abbrev pub IsLeftBy : (bytes : List ℕ) (old new : Option (List ℕ)) → Type 0
-IsLeftBy bytes old new = (new ≡ old) ⊎ (Torn (TornCut 0) old new ⊎ (Torn (TornWrite 0 (length bytes)) (Some []) new ⊎ (new ≡ Some bytes)))
+IsLeftBy bytes old new =
+    (new ≡ old) ⊎ (Torn (TornCut 0) old new ⊎ (Torn (TornWrite 0 (length bytes)) (Some []) new ⊎ (new ≡ Some bytes)))
 
 -- ---- names
 

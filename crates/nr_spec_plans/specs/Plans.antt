@@ -23,8 +23,8 @@ Answer (Cut name len) = Unit {0}
 Answer (Write name at bytes) = Unit {0}
 Answer (Sync name) = Unit {0}
 
--- how many calls it takes to read a file of a length up to a size: none for nothing, one that gives all that fits, and one more
--- that finds the end where this is something, and less than the size
+-- how many calls it takes to read a file of a length up to a size: none for nothing, one that gives all that fits, and
+-- one more that finds the end where this is something, and less than the size
 abbrev pub calls_for : (size found : ℕ) → ℕ
 calls_for size found = min 1 size + min 1 (min found (size - found))
 
@@ -37,7 +37,8 @@ pub record WholeBy (name : List ℕ) (size calls : ℕ) (t : Told) : Type 0 wher
   pub number : calls ≡ calls_for size (length (bytes_of (t.holds name)))
   pub listed : NoneListed calls t
 
--- The last of so many calls failed: the first, or the second, which found the end where the first gave all that there is.
+-- The last of so many calls failed: the first, or the second, which found the end where the first gave all that there
+-- is.
 pub record StoppedBy (name : List ℕ) (n calls : ℕ) (t : Told) : Type 0 where
   pub number : calls ≡ 1 + min 1 n
   pub given : 0 < n → n ≡ length (bytes_of (t.holds name))
@@ -62,13 +63,15 @@ pub record ReadsUpTo (name : List ℕ) (size n : ℕ) (old new : Disk) : Type 0 
 -- The bytes of a file up to a size; or want of memory, before anything is read; or a fault after some bytes.
 abbrev pub Reads : (name : List ℕ) (size : ℕ) → Disk → Disk → Result (List ℕ) Fault → Type 0
 Reads name size old new (Ok bytes) =
-    ReadsUpTo name size (length bytes) old new × ((t : Told) → old.told ≡ Some t → bytes ≡ take size (bytes_of (t.holds name)))
+    ReadsUpTo name size (length bytes) old new
+    × ((t : Told) → old.told ≡ Some t → bytes ≡ take size (bytes_of (t.holds name)))
 Reads name size old new (Err fault) = ((fault ≡ Memory) × (new ≡ old)) ⊎ StopsReading name size old new fault
 
 -- The same into a buffer, whose first n bytes are those of the file then.
 abbrev pub Fills : (name : List ℕ) (size : ℕ) (buffer : List ℕ) → Disk → Disk → Result ℕ Fault → Type 0
 Fills name size buffer old new (Ok n) =
-    ReadsUpTo name size n old new × ((t : Told) → old.told ≡ Some t → take n buffer ≡ take size (bytes_of (t.holds name)))
+    ReadsUpTo name size n old new
+    × ((t : Told) → old.told ≡ Some t → take n buffer ≡ take size (bytes_of (t.holds name)))
 Fills name size buffer old new (Err fault) = StopsReading name size old new fault
 
 -- what a step does
@@ -103,7 +106,8 @@ abbrev pub ◌>>=◌ : {E A B : Type 0} → Plan E A → (A → Plan E B) → Pl
 p >>= f = followed_by p f
 
 -- A step that went well leads on. The first that doesn't ends the work at once.
-abbrev pub Goes : {E A B : Type 0} → Result A Fault → (A → Disk → Disk → Result B (Halt E) → Type 0) → Disk → Disk → Result B (Halt E) → Type 0
+abbrev pub Goes : {E A B : Type 0} → Result A Fault → (A → Disk → Disk → Result B (Halt E) → Type 0) → Disk → Disk
+    → Result B (Halt E) → Type 0
 Goes (Ok answer) next mid new result = next answer mid new result
 Goes (Err fault) next mid new result = (new ≡ mid) × (result ≡ Err (Faulted fault))
 
@@ -113,7 +117,8 @@ Runs (Done value) old new result = (new ≡ old) × (result ≡ Ok value)
 Runs (Refuse refusal) old new result = (new ≡ old) × (result ≡ Err (Refused refusal))
 Runs (Room next) old new result = ((new ≡ old) × (result ≡ Err (Faulted Memory))) ⊎ Runs next old new result
 Runs (Act action next) old new result =
-    (mid : Disk) × (got : Result (Answer action) Fault) × Acts action old mid got × Goes got (λ answer. Runs (next answer)) mid new result
+    (mid : Disk) × (got : Result (Answer action) Fault) × Acts action old mid got
+    × Goes got (λ answer. Runs (next answer)) mid new result
 
 -- a step by itself
 abbrev pub act : {E : Type 0} (action : Action) → Plan E (Answer action)

@@ -41,7 +41,8 @@ pub record OnlyBy (kind : Action → Type 0) (old new : Disk) : Type 0 where
   pub lead : Lead steps old new
   pub each : AreOf kind steps
 
--- The same, and nothing was done behind a step that failed; the fault that ended the work is that step's, or want of memory.
+-- The same, and nothing was done behind a step that failed; the fault that ended the work is that step's, or want of
+-- memory.
 pub record DoneBy (kind : Action → Type 0) (end : Result (Unit {0}) Fault) (old new : Disk) : Type 0 where
   pub only : OnlyBy kind old new
   pub stop : Stop only.steps end

@@ -58,10 +58,11 @@ RanOut result e sink =
     ⊎ (((refusal : Refusal) × (result ≡ Err (Refused refusal)) × (e ≡ fault_ending Memory)) ⊎ (sink ≡ Err Memory))
 
 -- Each status has its cause, by what the plan gave, its ending and what the sink answered. The words alone decide on
--- usage. With 4 one count rose, by one. With 5 that of write faults did, or that of the sink, and beside it the count of
--- the fault whose line the sink didn't take, if any. With every other status none rose, but where the sink found no memory
--- for the line of a fault.
-pub record Caused (request : Option Request) (old new : Disk) (before after : Tape) (result : Result Ending (Halt Refusal))
+-- usage. With 4 one count rose, by one. With 5 that of write faults did, or that of the sink, and beside it the count
+-- of the fault whose line the sink didn't take, if any. With every other status none rose, but where the sink found no
+-- memory for the line of a fault.
+pub record Caused (request : Option Request) (old new : Disk) (before after : Tape)
+    (result : Result Ending (Halt Refusal))
     (e : Ending) (sink : Result (Unit {0}) Fault) (status : ℕ) : Type 0 where
   pub usage : status ≡ 2 → request ≡ None
   pub is_usage : request ≡ None → (status ≡ 2) ⊎ ((status ≡ 5) ⊎ (status ≡ 6))
@@ -167,15 +168,15 @@ abbrev pub ended : Result Ending Refusal → Ending
 ended (Ok ending) = ending
 ended (Err refusal) = refusal_ending refusal
 
--- The ending is what the plan gives by what the files hold, or that of want of memory, or that of the fault that stopped
--- the plan.
+-- The ending is what the plan gives by what the files hold, or that of want of memory, or that of the fault that
+-- stopped the plan.
 abbrev pub EndsBy : Contents → Work Ending → Result Ending (Halt Refusal) → Ending → Type 0
 EndsBy held plan result e =
     (e ≡ ended (outcome held plan))
     ⊎ ((e ≡ fault_ending Memory) ⊎ ((fault : Fault) × (fault_in result ≡ Err fault) × (e ≡ fault_ending fault)))
 
--- The ending is what the plan gives by what the files hold, or that of want of memory; the status is its own, or that of
--- want of memory.
+-- The ending is what the plan gives by what the files hold, or that of want of memory; the status is its own, or that
+-- of want of memory.
 pub record EndsAs (held : Contents) (plan : Work Ending) (e : Ending) (status : ℕ) : Type 0 where
   pub ending : (e ≡ ended (outcome held plan)) ⊎ (e ≡ fault_ending Memory)
   pub answers : (status ≡ e.status) ⊎ (status ≡ (fault_ending Memory).status)
@@ -188,8 +189,8 @@ pub record LeavesFiles (old new : Disk) : Type 0 where
   pub writes : new.write_faults ≡ old.write_faults
   pub only : OnlyBy IsRead old new
 
--- A key was got from its seed file, and after that the key file was cut to nothing, written and synced, and each of these
--- went well.
+-- A key was got from its seed file, and after that the key file was cut to nothing, written and synced, and each of
+-- these went well.
 pub record SavesKey (q : KeygenRequest) (old new : Disk) : Type 0 where
   pub key : Key
   pub read : Disk

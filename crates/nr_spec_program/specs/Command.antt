@@ -98,7 +98,8 @@ refusal_ending (NoFile input) =
 refusal_ending (Limit input found) =
     record {
       status = 7;
-      text = line (codes "refused" ∷ codes "limit" ∷ input_name input ∷ decimal found ∷ decimal (input_limit input) ∷ []);
+      text = line (codes "refused" ∷ codes "limit" ∷ input_name input
+          ∷ decimal found ∷ decimal (input_limit input) ∷ []);
     }
 refusal_ending (Malformed input place) =
     record { status = 3; text = line (codes "malformed" ∷ input_name input ∷ decimal place ∷ []) }
@@ -157,8 +158,8 @@ check_plan q = do
   room ← want
   Done (promise_ending promise)
 
--- The report on an answer, by one promise file, or the first thing that refuses it. No file is asked for after one that is
--- refused.
+-- The report on an answer, by one promise file, or the first thing that refuses it. No file is asked for after one that
+-- is refused.
 unfoldable pub audit_plan : AuditRequest → Work Ending
 audit_plan q = do
   promise ← promise_plan q.promise

@@ -98,7 +98,8 @@ report_of root files base answer period auths = record {
 }
 
 -- the first fact that refuses an answer with a base, or the report
-unfoldable pub outcome_over : List ℕ → List Audited → Base → AnswerFile → Period → List Authenticator → Result Report Fact
+unfoldable pub outcome_over : List ℕ → List Audited → Base → AnswerFile → Period → List Authenticator
+    → Result Report Fact
 outcome_over root files base answer period auths =
     refused_by (network_fact answer.asn files)
     (holds_or (is_signed root answer.head) Unsigned

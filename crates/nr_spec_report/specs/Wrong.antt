@@ -45,6 +45,7 @@ wrong_after files base period first past [] = []
 wrong_after files base period first past (e ∷ later) =
     wrong_next files base period first past e ++ wrong_after files base period first (past ++ e ∷ []) later
 
--- The wrong entries of a slice, whose first entry has this number: those with a cause and a time in the period, in order.
+-- The wrong entries of a slice, whose first entry has this number: those with a cause and a time in the period, in
+-- order.
 abbrev pub wrong_entries : List Numbers → Base → Period → ℕ → List LogEntry → List WrongEntry
 wrong_entries files base period first entries = wrong_after files base period first [] entries

@@ -62,4 +62,5 @@ update_says changes p =
 abbrev pub says : Effect → Key → Option (Option AttributeBlock)
 says Keeps key = None
 says (Empties neighbour) key = if neighbour == key.neighbour then Some None else None
-says (Alters direction neighbour changes) key = if is_with direction neighbour key then update_says changes key.prefix else None
+says (Alters direction neighbour changes) key =
+    if is_with direction neighbour key then update_says changes key.prefix else None

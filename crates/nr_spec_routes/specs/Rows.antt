@@ -13,7 +13,8 @@ use Rattle.nr_spec_routes.specs.Routes.{route_after}
 abbrev pub announced : Effect → List Key
 announced Keeps = []
 announced (Empties neighbour) = []
-announced (Alters direction neighbour changes) = map (λ p. record { prefix = p; direction = direction; neighbour = neighbour }) changes.announced
+announced (Alters direction neighbour changes) =
+    map (λ p. record { prefix = p; direction = direction; neighbour = neighbour }) changes.announced
 
 -- no other key can have a route
 abbrev pub candidates : List Row → List LogEntry → List Key

@@ -62,5 +62,6 @@ pub fn standing_prefixes_are_those_that_stand()
 pub fn a_prefix_stands_where_it_has_a_route()
     ensures { (base : List Row) (entries : List LogEntry) (p : Cidr) → IsTrue (stands_in (rows_after base entries) p)
         ↔ ((direction : Direction) × (neighbour : ℕ) × (route : AttributeBlock)
-        × (route_after base entries (record { prefix = p; direction = direction; neighbour = neighbour }) ≡ Some route)) }
+        × (route_after base entries (record { prefix = p; direction = direction; neighbour = neighbour })
+        ≡ Some route)) }
 {}

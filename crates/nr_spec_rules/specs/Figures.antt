@@ -4,12 +4,7 @@ use Rattle.std.specs.List.{list_all}
 use Rattle.std.specs.Result.{result_ok}
 use Rattle.std.specs.Char.{is_ascii_digit}
 use Rattle.hex.specs.Hex.{decode_sized}
-
--- one step after another: where one gives nothing, the whole does
-infixl 10 ◌>>=◌
-abbrev pub ◌>>=◌ : {A B : Type 0} → Option A → (A → Option B) → Option B
-None >>= f = None
-(Some x) >>= f = f x
+use Rattle.nr_spec_wire.specs.Optional.{◌>>=◌}
 
 -- what decimal digits are worth, the highest first, after digits that are worth n
 abbrev pub worth_from : ℕ → List ℕ → ℕ

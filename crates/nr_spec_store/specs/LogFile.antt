@@ -1,5 +1,5 @@
--- The log file: a birth, and batches of entries, each after a gate of one byte. A gate is opened by the byte 1 and closed by
--- every other byte; what stands after a closed gate is ignored.
+-- The log file: a birth, and batches of entries, each after a gate of one byte. A gate is opened by the byte 1 and
+-- closed by every other byte; what stands after a closed gate is ignored.
 use Rattle.std.specs.Prelude.{ℕ, zero, suc, ◌-◌, ◌^◌, ◌<◌, ◌≤◌, ◌≡◌, Bool, false, ◌&&◌, ◌==◌, nat_lt, nat_le, if◌then◌else◌, List, [], ◌∷◌, ◌++◌, length, take, get_or, Option, None, Some, Result, Ok, Err, codes}
 use Rattle.std.specs.List.{flat_map}
 use Rattle.std.specs.Str.{bytes_eq}
@@ -57,7 +57,9 @@ log_front asn root batches gate = birth asn root ++ (flat_map open_batch batches
 -- batches that fit, each of an entry at least, whose times don't run back after this one
 abbrev pub AreBatchesFrom : ℕ → List (List LogEntry) → Type 0
 AreBatchesFrom last [] = Unit {0}
-AreBatchesFrom last (es ∷ batches) = AreEntriesFrom last es × (1 ≤ length es) × (length (spelled es) < 2 ^ 32) × AreBatchesFrom (last_time last es) batches
+AreBatchesFrom last (es ∷ batches) =
+    AreEntriesFrom last es × (1 ≤ length es) × (length (spelled es) < 2 ^ 32)
+    × AreBatchesFrom (last_time last es) batches
 
 -- ---- reading
 
@@ -69,8 +71,8 @@ entries_to_end last (suc fuel) s = if length s.rest == 0 then Ok ([], s) else (d
   others ← entries_to_end first.0.time fuel first.1
   Ok (first.0 ∷ others.0, others.1))
 
--- The entries of a batch after its open gate, as a part. Where its bytes and one more, the next gate, aren't all there, the
--- fault is at the length.
+-- The entries of a batch after its open gate, as a part. Where its bytes and one more, the next gate, aren't all there,
+-- the fault is at the length.
 unfoldable pub part_of_batch : Spot → Read Spot
 part_of_batch s = do
   any ← number_at 4 s
@@ -140,7 +142,8 @@ with_batch log entries = record {
   front = opened log.front ++ (batch entries ++ 0 ∷ []);
 }
 
--- A batch may follow this time: it has an entry at least, its entries fit, and their times don't run back, nor below that one.
+-- A batch may follow this time: it has an entry at least, its entries fit, and their times don't run back, nor below
+-- that one.
 pub record MayFollow (last : ℕ) (es : List LogEntry) : Type 0 where
   pub fit : AreEntriesFrom last es
   pub some : 1 ≤ length es

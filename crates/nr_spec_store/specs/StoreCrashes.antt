@@ -12,7 +12,8 @@ pub record HoldsEntries (file : List ℕ) (log : LogFile) (entries : List LogEnt
 
 -- the entries before, or those with the whole batch
 abbrev pub IsBeforeOrAfter : LogFile → List LogEntry → List ℕ → Type 0
-IsBeforeOrAfter log entries file = HoldsEntries file log log.entries ⊎ (log_of file ≡ Ok (Some (with_batch log entries)))
+IsBeforeOrAfter log entries file =
+    HoldsEntries file log log.entries ⊎ (log_of file ≡ Ok (Some (with_batch log entries)))
 
 -- no log, or one without entries
 abbrev pub IsUnbornOrBorn : LogFile → List ℕ → Type 0
@@ -32,7 +33,7 @@ pub record Holds (d : Disk) (name : List ℕ) (log : LogFile) : Type 0 where
   pub is_log : IsLog log
   pub holds : log_of file ≡ Ok (Some log)
 
--- what a load leaves that found no log: a file that rests and isn't born, or one of which neither a read nor a crash gives the
--- bytes of a birth
+-- what a load leaves that found no log: a file that rests and isn't born, or one of which neither a read nor a crash
+-- gives the bytes of a birth
 abbrev pub AwaitsBirth : Disk → (name : List ℕ) → Type 0
 AwaitsBirth d name = ((file : List ℕ) × Rests d name file × (log_of file ≡ Ok None)) ⊎ IsWithin name (birth_size - 1) d

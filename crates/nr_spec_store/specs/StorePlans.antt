@@ -69,8 +69,8 @@ birth_plan name asn root = do
   opened ← gate_plan name 1 (drop 1 (born asn root).front)
   Done (born asn root)
 
--- The batch is written after the closed gate, with another closed gate after it, and once that is on the disk the gate before it
--- is opened.
+-- The batch is written after the closed gate, with another closed gate after it, and once that is on the disk the gate
+-- before it is opened.
 unfoldable pub append_plan : (name : List ℕ) → LogFile → List LogEntry → Work LogFile
 append_plan name log entries = do
   spelled ← want

@@ -34,8 +34,11 @@ fn is_spent(count: u64, left: u64) -> bool
 fn open_next(left: &mut Left<'_>) -> bool
     requires read { fault (left_at left.old.last left.old.count left.old.part left.old.fuel left.old.beyond) ≡ None }
     ensures more { result ≡ true → (left.new.count ≢ 0) × (length left.new.part.rest ≢ 0)
-        × (left_at left.new.last left.new.count left.new.part left.new.fuel left.new.beyond ≡ left_at left.old.last left.old.count left.old.part left.old.fuel left.old.beyond) }
-    ensures none { result ≡ false → (left.new ≡ left.old) × (rows (left_at left.old.last left.old.count left.old.part left.old.fuel left.old.beyond) ≡ []) }
+        × (left_at left.new.last left.new.count left.new.part left.new.fuel left.new.beyond
+        ≡ left_at left.old.last left.old.count left.old.part left.old.fuel left.old.beyond) }
+    ensures none { result ≡ false
+        → (left.new ≡ left.old)
+        × (rows (left_at left.old.last left.old.count left.old.part left.old.fuel left.old.beyond) ≡ []) }
 {
     if !is_spent(left.count, left.part.left()) {
         return true;
@@ -68,7 +71,8 @@ fn give<'a>(left: &mut Left<'a>) -> Entry<'a>
     requires count { left.old.count ≢ 0 }
     requires bytes { length left.old.part.rest ≢ 0 }
     requires read { fault (left_at left.old.last left.old.count left.old.part left.old.fuel left.old.beyond) ≡ None }
-    ensures { left_at left.old.last left.old.count left.old.part left.old.fuel left.old.beyond ≡ behind (entry_of result) (left_at left.new.last left.new.count left.new.part left.new.fuel left.new.beyond) }
+    ensures { left_at left.old.last left.old.count left.old.part left.old.fuel left.old.beyond
+        ≡ behind (entry_of result) (left_at left.new.last left.new.count left.new.part left.new.fuel left.new.beyond) }
 {
     match read_entry(&mut left.part, left.last) {
         Ok(entry) => {

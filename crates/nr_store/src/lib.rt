@@ -1,5 +1,5 @@
-//! The log file: a log behind its store, which is loaded from its file, born into it and appended to by whole batches. A
-//! crash at any moment finds the log before or after a batch, never between.
+//! The log file: a log behind its store, which is loaded from its file, born into it and appended to by whole batches.
+//! A crash at any moment finds the log before or after a batch, never between.
 #![tactic(auto)]
 
 mod entries;

@@ -84,7 +84,8 @@ pub fn read_entry<'a>(cursor: &mut Cursor<'a>, last: u64) -> Result<Entry<'a>, P
 
 // Reads entries to the end of their bytes, and says the time of the last.
 fn check_entries(part: &Cursor<'_>, before: u64) -> Result<u64, Place>
-    ensures { Answers (λ last. last) offset_of result (last_after before (entries_to_end before (length part.now.rest) part.now)) }
+    ensures { Answers (λ last. last) offset_of result
+        (last_after before (entries_to_end before (length part.now.rest) part.now)) }
 {
     let mut ahead = part.fork();
     let mut last = before;

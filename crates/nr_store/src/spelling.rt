@@ -56,7 +56,8 @@ pub fn spell_entries(alloc: Global, entries: &List<Entry<'_>>) -> Result<Vec<u8>
 /// Puts a batch of such entries after bytes, with a closed gate after it.
 pub fn put_batch(out: &mut Vec<u8>, entries: &[u8]) -> Result<(), Memory>
     requires { length entries.now < 2 ^ 32 }
-    ensures { OnOk result (out.new.items ≡ out.old.items ++ (big_bytes 4 (length entries.now) ++ (entries.now ++ 0 ∷ []))) }
+    ensures { OnOk result (out.new.items ≡ out.old.items
+        ++ (big_bytes 4 (length entries.now) ++ (entries.now ++ 0 ∷ []))) }
 {
     put_u32(out, entries.len() as u32)?;
     put_bytes(out, entries)?;

@@ -38,9 +38,19 @@ impl Model for Store {
 
     ghost Value = { LogFile };
 
-    ghost view = { λ s. record { asn = s.asn; root = s.root.0; entries = entries_in (log_of s.bytes.items); front = s.bytes.items } };
+    ghost view = { λ s. record {
+      asn = s.asn;
+      root = s.root.0;
+      entries = entries_in (log_of s.bytes.items);
+      front = s.bytes.items;
+    } };
 
-    ghost invariant = { λ s. (log_of s.bytes.items ≡ Ok (Some (record { asn = s.asn; root = s.root.0; entries = entries_in (log_of s.bytes.items); front = s.bytes.items }))) × (length s.bytes.items ≤ most_log) };
+    ghost invariant = { λ s. (log_of s.bytes.items ≡ Ok (Some (record {
+      asn = s.asn;
+      root = s.root.0;
+      entries = entries_in (log_of s.bytes.items);
+      front = s.bytes.items;
+    }))) × (length s.bytes.items ≤ most_log) };
 }
 
 // The same slice. The bytes of a vector are bytes.
@@ -127,7 +137,8 @@ impl Store {
         root: &Digest,
     ) -> Result<Store, AppendError>
         requires { (t : Told) → (F.disk files.old).told ≡ Some t → log_of (bytes_of (t.holds name.now)) ≡ Ok None }
-        ensures { Runs (birth_plan name.now asn root.now.0) (F.disk files.old) (F.disk files.new) (appended (λ store. store) result) }
+        ensures { Runs (birth_plan name.now asn root.now.0) (F.disk files.old) (F.disk files.new)
+            (appended (λ store. store) result) }
     {
         let bytes = birth_bytes(alloc, asn, root)?;
         let size = files.size(name)?.unwrap_or(0);
@@ -168,9 +179,9 @@ impl Store {
         begin(beyond)
     }
 
-    /// Adds a batch: it is written, and its gate is opened once it is on the disk, by four calls and no other. A crash at
-    /// any moment of it leaves the entries before it, or those with the whole batch. After an error the file has to be
-    /// loaded again.
+    /// Adds a batch: it is written, and its gate is opened once it is on the disk, by four calls and no other. A crash
+    /// at any moment of it leaves the entries before it, or those with the whole batch. After an error the file has to
+    /// be loaded again.
     #[tactic(auto, using(nr_spec_plans::proofs::PlanLemmas::planning), unfolding(nr_spec_store::specs::StorePlans::append_plan, nr_spec_plans::specs::Plans::Runs, nr_spec_plans::specs::Plans::followed_by))]
     pub fn append<F: Files>(
         self,
@@ -179,8 +190,10 @@ impl Store {
         batch: &List<Entry<'_>>,
     ) -> Result<Store, AppendError>
         requires batch { MayFollow (last_time 0 self.entries) (map entry_of batch.now) }
-        requires file { (t : Told) → (F.disk files.old).told ≡ Some t → log_of (bytes_of (t.holds name.now)) ≡ Ok (Some self) }
-        ensures { Runs (append_plan name.now self (map entry_of batch.now)) (F.disk files.old) (F.disk files.new) (appended (λ store. store) result) }
+        requires file { (t : Told) → (F.disk files.old).told ≡ Some t
+            → log_of (bytes_of (t.holds name.now)) ≡ Ok (Some self) }
+        ensures { Runs (append_plan name.now self (map entry_of batch.now)) (F.disk files.old) (F.disk files.new)
+            (appended (λ store. store) result) }
     {
         let mut store = self;
         let end = bytes_in(&store.bytes).len();

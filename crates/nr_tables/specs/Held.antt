@@ -11,7 +11,9 @@ use Rattle.nr_spec_routes.specs.Effects.{is_with}
 
 -- the order by neighbour: those of a neighbour stand together
 abbrev pub place_cmp : Key → Key → Ordering
-place_cmp a b = ordering_then (nat_cmp a.neighbour b.neighbour) (ordering_then (cidr_cmp a.prefix b.prefix) (direction_cmp a.direction b.direction))
+place_cmp a b =
+    ordering_then (nat_cmp a.neighbour b.neighbour)
+    (ordering_then (cidr_cmp a.prefix b.prefix) (direction_cmp a.direction b.direction))
 
 -- whether a key is among others
 abbrev pub is_in : List Key → Key → Bool

@@ -78,7 +78,8 @@ fn named(
 
 // Empties a neighbour; the prefixes that had a row with it, in order and each once.
 fn empty(alloc: Global, table: &mut Table, neighbour: u16) -> Result<Vec<Prefix>, Memory>
-    ensures rows { OnOk result ((q : keys.Key) → route_in table.new q ≡ (if neighbour == q.neighbour then None else route_in table.old q)) }
+    ensures rows { OnOk result ((q : keys.Key)
+        → route_in table.new q ≡ (if neighbour == q.neighbour then None else route_in table.old q)) }
     ensures touched { IfOk result (λ list. list.items ≡ each_once (prefixes_in (rows_with neighbour table.old))) }
 {
     let mut gathered = Gathered::new(alloc);
@@ -91,7 +92,8 @@ fn empty(alloc: Global, table: &mut Table, neighbour: u16) -> Result<Vec<Prefix>
 #[tactic(auto, unfolding(nr_spec_routes::specs::Touched::touched_by))]
 pub fn change(alloc: Global, table: &mut Table, effect: &Effect<'_>) -> Result<Vec<Prefix>, Memory>
     requires { IsShort (effect_view effect.now) }
-    ensures rows { OnOk result ((q : keys.Key) → route_in table.new q ≡ unwrap_or (says (effect_view effect.now) q) (route_in table.old q)) }
+    ensures rows { OnOk result ((q : keys.Key)
+        → route_in table.new q ≡ unwrap_or (says (effect_view effect.now) q) (route_in table.old q)) }
     ensures touched { IfOk result (λ list. list.items ≡ touched_by table.old (effect_view effect.now)) }
 {
     match effect {

@@ -79,7 +79,8 @@ impl State {
     ) -> Result<State, Memory>
         requires { length attrs.now.block < 2 ^ 16 }
         ensures routes { IfOk result (λ new. (q : keys.Key) → route_in new q
-            ≡ (if is_eq (key_cmp (record { prefix = prefix; direction = direction; neighbour = neighbour }) q) then Some attrs.now else route_in self q)) }
+            ≡ (if is_eq (key_cmp (record { prefix = prefix; direction = direction; neighbour = neighbour }) q)
+            then Some attrs.now else route_in self q)) }
         ensures order { IfOk result (λ new. AreAscending new) }
     {
         let State { alloc, mut table } = self;
@@ -95,7 +96,8 @@ impl State {
 
     /// The route of a prefix in a direction with a neighbour.
     pub fn route(&self, direction: Direction, neighbour: u16, prefix: &Prefix) -> Option<Attrs<'_>>
-        ensures { result ≡ route_in self.now (record { prefix = prefix.now; direction = direction; neighbour = neighbour }) }
+        ensures { result
+            ≡ route_in self.now (record { prefix = prefix.now; direction = direction; neighbour = neighbour }) }
     {
         let key = Key {
             prefix: *prefix,

@@ -45,7 +45,8 @@ impl Model for Table {
 fn drop_row(rows: &mut BTreeMap<Key, Route>, key: Key) -> bool
     ensures was { result ≡ is_some (route_in rows.old.entries key) }
     ensures left { rows.new.entries ≡ remove_entry (is_at (key_cmp key)) rows.old.entries }
-    ensures rows { (q : keys.Key) → route_in rows.new.entries q ≡ (if is_eq (key_cmp key q) then None else route_in rows.old.entries q) }
+    ensures rows { (q : keys.Key)
+        → route_in rows.new.entries q ≡ (if is_eq (key_cmp key q) then None else route_in rows.old.entries q) }
 {
     rows.remove(&key).is_some()
 }
@@ -57,8 +58,10 @@ fn remove_row(
     key: Key,
     gathered: &mut Gathered,
 ) -> Result<(), Memory>
-    ensures rows { (q : keys.Key) → route_in rows.new.entries q ≡ (if is_eq (key_cmp key q) then None else route_in rows.old.entries q) }
-    ensures named { OnOk result ((p : Cidr) → (is_named (prefixes_in (rows_with key.neighbour rows.new.entries)) p || is_named gathered.new p)
+    ensures rows { (q : keys.Key)
+        → route_in rows.new.entries q ≡ (if is_eq (key_cmp key q) then None else route_in rows.old.entries q) }
+    ensures named { OnOk result ((p : Cidr)
+        → (is_named (prefixes_in (rows_with key.neighbour rows.new.entries)) p || is_named gathered.new p)
         ≡ (is_named (prefixes_in (rows_with key.neighbour rows.old.entries)) p || is_named gathered.old p)) }
 {
     if drop_row(rows, key) {
@@ -78,8 +81,11 @@ fn empty_rows(
 ) -> Result<(), Memory>
     requires { AreHeld rows.old.entries places.old }
     ensures held { AreHeld rows.new.entries places.new }
-    ensures rows { OnOk result ((q : keys.Key) → route_in rows.new.entries q ≡ (if neighbour == q.neighbour then None else route_in rows.old.entries q)) }
-    ensures named { OnOk result ((p : Cidr) → is_named gathered.new p ≡ (is_named (prefixes_in (rows_with neighbour rows.old.entries)) p || is_named gathered.old p)) }
+    ensures rows { OnOk result ((q : keys.Key)
+        → route_in rows.new.entries q ≡ (if neighbour == q.neighbour then None else route_in rows.old.entries q)) }
+    ensures named { OnOk result ((p : Cidr)
+        → is_named gathered.new p
+        ≡ (is_named (prefixes_in (rows_with neighbour rows.old.entries)) p || is_named gathered.old p)) }
 {
     while let Some(key) = places.first_with(neighbour) {
         remove_row(rows, key, gathered)?;
@@ -105,7 +111,8 @@ impl Table {
     }
 
     pub fn put(&mut self, key: Key, route: Route) -> Result<(), Memory>
-        ensures { OnOk result ((q : keys.Key) → route_in self.new q ≡ (if is_eq (key_cmp key q) then Some route else route_in self.old q)) }
+        ensures { OnOk result ((q : keys.Key)
+            → route_in self.new q ≡ (if is_eq (key_cmp key q) then Some route else route_in self.old q)) }
     {
         self.places.add(key)?;
         self.rows.insert(key, route)?;
@@ -121,8 +128,11 @@ impl Table {
 
     /// Removes the rows of a neighbour, and gathers their prefixes. It looks at no other row.
     pub fn empty(&mut self, neighbour: u16, gathered: &mut Gathered) -> Result<(), Memory>
-        ensures rows { OnOk result ((q : keys.Key) → route_in self.new q ≡ (if neighbour == q.neighbour then None else route_in self.old q)) }
-        ensures named { OnOk result ((p : Cidr) → is_named gathered.new p ≡ (is_named (prefixes_in (rows_with neighbour self.old)) p || is_named gathered.old p)) }
+        ensures rows { OnOk result ((q : keys.Key)
+            → route_in self.new q ≡ (if neighbour == q.neighbour then None else route_in self.old q)) }
+        ensures named { OnOk result ((p : Cidr)
+            → is_named gathered.new p
+            ≡ (is_named (prefixes_in (rows_with neighbour self.old)) p || is_named gathered.old p)) }
     {
         empty_rows(&mut self.rows, &mut self.places, neighbour, gathered)
     }

@@ -1,7 +1,8 @@
 use Rattle.std.proofs.Common.{◌≡◌, ◌∙◌, ℕ, Bool, cond, true, false, List, [], ◌∷◌, Option, Some, None, ap, refl, sym, subst, bytes_eq, codes, unwrap_or}
 use Rattle.std.proofs.lemmas.Slice.Eq.{bytes_eq-Decides}
 use Rattle.nr_words.specs.Grammar.{Grammar, Values, values_in}
-use Rattle.nr_spec_commands.specs.Words.{◌>>=◌, Request, Audit, Keygen, Check, audit_grammar, audit_in, audit_request, check_grammar, check_in, check_request, keygen_grammar, keygen_in, keygen_request, request_in}
+use Rattle.nr_spec_wire.specs.Optional.{◌>>=◌}
+use Rattle.nr_spec_commands.specs.Words.{Request, Audit, Keygen, Check, audit_grammar, audit_in, audit_request, check_grammar, check_in, check_request, keygen_grammar, keygen_in, keygen_request, request_in}
 use Rattle.nr_laws_words.specs.Commands.{Asks, AsksBy}
 use Rattle.nr_laws_words.specs.Pairs.{is_clear}
 use Rattle.nr_laws_words.proofs.Theorem.{given, gives}
