@@ -2,3 +2,4 @@ pub mod Files
 pub mod Moments
 pub mod Broken
 pub mod Counted
+pub mod Found
