@@ -2,7 +2,7 @@
 
 ghost use Rattle.std.specs.Prelude.{◌≤◌, IfOk, length};
 
-use crate::log::{Line, RECEIVED, SENT, broken};
+use crate::log::{Line, PROMISE, RECEIVED, SENT, broken};
 use nr_evidence::Period;
 use nr_rule_syntax::parse;
 use nr_rule_types::{Typed, check};
@@ -130,7 +130,11 @@ const FORMULAS: [(&str, bool); 62] = [
     ),
 ];
 
-const LOG: [Line; 2] = [(4_000_000, 2, RECEIVED), (5_000_000, 1, SENT)];
+const LOG: [Line; 3] = [
+    (0, 7, PROMISE),
+    (4_000_000, 2, RECEIVED),
+    (5_000_000, 1, SENT),
+];
 
 const PERIOD: Period = Period {
     from: 6_000_000,

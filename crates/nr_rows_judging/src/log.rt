@@ -28,6 +28,9 @@ pub const SENT: &str =
 /// 10.1.0.0/16 is withdrawn, sent to neighbour 1.
 pub const WITHDRAWN: &str = "000101ffffffffffffffffffffffffffffffff001a020003100a010000";
 
+/// The session with neighbour 1 goes from Established to Idle.
+pub const IDLE: &str = "000100060001";
+
 /// A promise by the file, of two neighbours and a minute.
 pub const PROMISE: &str =
     "1375025123b16bf96231b58c900e4c344b41888c97be7aab4f6188ed8636572300020000003c";

@@ -1,4 +1,4 @@
-use Rattle.nr_rows_judging.proofs.promises.finds_what_is_broken.Given as goal
+use Rattle.nr_rows_judging.proofs.promises.differing.Given as goal
 
 -- a ledger of its own
 abbrev pub ghosts-broken : goal.ghosts-broken
