@@ -1,0 +1,7 @@
+mod Members
+mod Keys
+mod Sight
+mod Spans
+pub mod Exactly
+mod Places
+pub mod Rows
