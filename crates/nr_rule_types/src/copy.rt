@@ -3,7 +3,7 @@
 ghost use Rattle.std.specs.Prelude.{◌≡◌, IfOk};
 
 use nr_rule_syntax::Word;
-use nr_spec_typing::{Neighbour, Promise, Typing};
+use nr_spec_typing::{Neighbour, Promise, Shared, Typing};
 use sqlite_items::{Boxed, Items};
 use std::alloc::{AllocError, Global};
 
@@ -25,6 +25,19 @@ fn copy_held(alloc: Global, form: &Typing) -> Result<Boxed<Typing>, AllocError>
     Boxed::new(alloc, copy_form(alloc, form)?)
 }
 
+// A group, and what is held of each of its neighbours.
+#[cycle(copy)]
+fn copy_over(
+    alloc: Global,
+    group: &Shared<u16>,
+    form: &Typing,
+) -> Result<(Shared<u16>, Boxed<Typing>), AllocError>
+    ensures { IfOk result (λ copy. copy ≡ (group.now, form.now)) }
+{
+    let group = group.share()?;
+    Ok((group, copy_held(alloc, form)?))
+}
+
 /// A formula like this one.
 #[cycle(copy)]
 pub fn copy_form(alloc: Global, form: &Typing) -> Result<Typing, AllocError>
@@ -40,16 +53,22 @@ pub fn copy_form(alloc: Global, form: &Typing) -> Result<Typing, AllocError>
             let left = copy_held(alloc, left.get())?;
             Typing::Implies(left, copy_held(alloc, right.get())?)
         }
-        Typing::All { var, group, form } => Typing::All {
-            var: *var,
-            group: group.share()?,
-            form: copy_held(alloc, form.get())?,
-        },
-        Typing::Some { var, group, form } => Typing::Some {
-            var: *var,
-            group: group.share()?,
-            form: copy_held(alloc, form.get())?,
-        },
+        Typing::All { var, group, form } => {
+            let (group, form) = copy_over(alloc, group, form.get())?;
+            Typing::All {
+                var: *var,
+                group,
+                form,
+            }
+        }
+        Typing::Some { var, group, form } => {
+            let (group, form) = copy_over(alloc, group, form.get())?;
+            Typing::Some {
+                var: *var,
+                group,
+                form,
+            }
+        }
         Typing::If {
             var,
             side,

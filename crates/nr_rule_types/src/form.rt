@@ -2,6 +2,8 @@
 
 ghost use Rattle.std.specs.Prelude.{◌≡◌, ◌+◌, ◌<◌, ◌≤◌, length, map, OnOk};
 ghost use Rattle.nr_rule_syntax.specs.Nesting.{depth};
+ghost use Rattle.nr_spec_typing.specs.declared.tree.Typing.TheVariants as typings;
+ghost use Rattle.nr_spec_typing.specs.Steps.{◌<$>◌};
 ghost use Rattle.nr_rule_types.specs.Depths.{deepest};
 ghost use Rattle.nr_spec_typing.specs.Scopes.{bind};
 ghost use Rattle.nr_spec_typing.specs.Forms as spec;
@@ -9,7 +11,7 @@ ghost use Rattle.nr_rule_types.specs.Views.{Answers};
 
 use crate::fault::TypeError;
 use crate::scope::Scope;
-use crate::term::{compared, crosses, is_same};
+use crate::term::{compared, crosses, has, in_set, is_same, stands};
 use nr_rule_syntax::{Form, Name};
 use nr_spec_typing::{Bound, Shared, Typing};
 use sqlite_items::{Boxed, Items};
@@ -83,6 +85,54 @@ fn over_group(
     Ok((members, form))
 }
 
+// `all VAR in GROUP { FORM }`
+#[cycle(form)]
+fn all(
+    alloc: Global,
+    scope: &mut Scope<'_, '_>,
+    var: &Name,
+    among: &Name,
+    form: &Form,
+) -> Result<Typing, TypeError>
+    requires levels { length scope.old.variables + depth form.now < 64 }
+    ensures value { Answers result
+        ((λ x. typings.All (length scope.old.variables) x.0 x.1)
+        <$> spec.over_group var.now among.now (spec.typed form.now) scope.old) }
+    ensures kept { OnOk result (scope.new ≡ scope.old) }
+{
+    let depth = scope.depth();
+    let (group, form) = over_group(alloc, scope, var, among, form)?;
+    Ok(Typing::All {
+        var: depth,
+        group,
+        form,
+    })
+}
+
+// `some VAR in GROUP { FORM }`
+#[cycle(form)]
+fn some(
+    alloc: Global,
+    scope: &mut Scope<'_, '_>,
+    var: &Name,
+    among: &Name,
+    form: &Form,
+) -> Result<Typing, TypeError>
+    requires levels { length scope.old.variables + depth form.now < 64 }
+    ensures value { Answers result
+        ((λ x. typings.Some (length scope.old.variables) x.0 x.1)
+        <$> spec.over_group var.now among.now (spec.typed form.now) scope.old) }
+    ensures kept { OnOk result (scope.new ≡ scope.old) }
+{
+    let depth = scope.depth();
+    let (group, form) = over_group(alloc, scope, var, among, form)?;
+    Ok(Typing::Some {
+        var: depth,
+        group,
+        form,
+    })
+}
+
 /// A formula in its scope, with its names resolved.
 #[cycle(form)]
 #[tactic(auto, unfolding(nr_spec_typing::specs::Forms::implies, nr_spec_typing::specs::Forms::conditional))]
@@ -102,24 +152,8 @@ pub fn typed(alloc: Global, scope: &mut Scope<'_, '_>, form: &Form) -> Result<Ty
             let right = held(alloc, scope, right.get())?;
             Ok(Typing::Implies(left, right))
         }
-        Form::All { var, group, form } => {
-            let depth = scope.depth();
-            let (group, form) = over_group(alloc, scope, var, group, form.get())?;
-            Ok(Typing::All {
-                var: depth,
-                group,
-                form,
-            })
-        }
-        Form::Some { var, group, form } => {
-            let depth = scope.depth();
-            let (group, form) = over_group(alloc, scope, var, group, form.get())?;
-            Ok(Typing::Some {
-                var: depth,
-                group,
-                form,
-            })
-        }
+        Form::All { var, group, form } => all(alloc, scope, var, group, form.get()),
+        Form::Some { var, group, form } => some(alloc, scope, var, group, form.get()),
         Form::If {
             var,
             side,
@@ -139,19 +173,11 @@ pub fn typed(alloc: Global, scope: &mut Scope<'_, '_>, form: &Form) -> Result<Ty
                 no,
             })
         }
-        Form::Stands { side, of } => Ok(Typing::Stands {
-            side: *side,
-            of: scope.who(of)?,
-        }),
-        Form::Has { var, community } => Ok(Typing::Has {
-            route: scope.route(var)?,
-            community: *community,
-        }),
+        Form::Stands { side, of } => stands(scope, *side, of),
+        Form::Has { var, community } => has(scope, var, *community),
         Form::Crosses { var, term } => crosses(scope, var, term),
         Form::Is { left, right } => is_same(scope, left, right),
-        Form::PrefixIn { set } => Ok(Typing::PrefixIn {
-            set: scope.set(set)?,
-        }),
+        Form::PrefixIn { set } => in_set(scope, set),
         Form::Compare { left, op, right } => compared(scope, left, *op, right),
     }
 }

@@ -62,7 +62,14 @@ pub fn promise<'a>(
     let at = places(alloc, texts)?;
     let mut known = known.declare(alloc, name, Named::Promise)?;
     let form = typed(alloc, &mut Scope::new(alloc, &known.names), form)?;
-    let name = Word::from_slice(alloc, name.word.bytes())?;
+    let name = match Word::from_slice(alloc, name.word.bytes()) {
+        Ok(word) => word,
+        Err(_) => {
+            // By a call, since each variant of the formula would be dropped here by itself.
+            drop(form);
+            return Err(TypeError::Memory);
+        }
+    };
     known.promises.push(Promise {
         name,
         grace,

@@ -1,11 +1,14 @@
 //! Numbers, and the formulas that hold no formula.
 
+ghost use Rattle.nr_spec_typing.specs.declared.tree.Typing.TheVariants as typings;
+ghost use Rattle.nr_spec_typing.specs.Steps.{◌<$>◌};
+ghost use Rattle.nr_spec_typing.specs.Scopes as scopes;
 ghost use Rattle.nr_spec_typing.specs.Forms as spec;
 ghost use Rattle.nr_rule_types.specs.Views.{Answers};
 
 use crate::fault::TypeError;
 use crate::scope::Scope;
-use nr_rule_syntax::{Cmp, Name, Term};
+use nr_rule_syntax::{Cmp, Name, Side, Term};
 use nr_spec_typing::{Typing, Value};
 
 /// A number.
@@ -24,6 +27,35 @@ pub fn value(scope: &Scope<'_, '_>, term: &Term) -> Result<Value, TypeError>
         Term::Hop(of) => Ok(Value::Hop(scope.route(of)?)),
         Term::Asn(of) => Ok(Value::Asn(scope.who(of)?)),
     }
+}
+
+/// `sent ( NAME )` or `received ( NAME )`
+pub fn stands(scope: &Scope<'_, '_>, side: Side, of: &Name) -> Result<Typing, TypeError>
+    ensures { Answers result (typings.Stands side <$> scopes.who scope.now of.now) }
+{
+    Ok(Typing::Stands {
+        side,
+        of: scope.who(of)?,
+    })
+}
+
+/// `NAME has COMMUNITY`
+pub fn has(scope: &Scope<'_, '_>, var: &Name, community: u32) -> Result<Typing, TypeError>
+    ensures { Answers result ((λ n. typings.Has n community) <$> scopes.route scope.now var.now) }
+{
+    Ok(Typing::Has {
+        route: scope.route(var)?,
+        community,
+    })
+}
+
+/// `prefix in NAME`
+pub fn in_set(scope: &Scope<'_, '_>, set: &Name) -> Result<Typing, TypeError>
+    ensures { Answers result (typings.PrefixIn <$> scopes.set scope.now set.now) }
+{
+    Ok(Typing::PrefixIn {
+        set: scope.set(set)?,
+    })
 }
 
 /// `NAME crosses Term`
