@@ -11,11 +11,15 @@ use nr_runs::Run;
 use nr_spec_typing::Promise;
 use std::alloc::Global;
 
-// Whether a run lasts at least as long as the grace of a promise, which is in seconds.
+// Whether a run lasts at least as long as the grace of a promise, which is in seconds. One that ends before it begins
+// doesn't.
 fn lasts(promise: &Promise, run: &Run) -> bool
     ensures { result ≡ spec.lasts (Some promise.now) (run_of run.now).span }
 {
-    u64::from(promise.grace) * 1_000_000 <= run.end.saturating_sub(run.begin)
+    match run.end.checked_sub(run.begin) {
+        Some(time) => u64::from(promise.grace) * 1_000_000 <= time,
+        None => false,
+    }
 }
 
 // Whether a run of a promise of these is broken.

@@ -5,3 +5,5 @@ mod Spans
 pub mod Exactly
 mod Places
 pub mod Rows
+mod OneMoment
+mod InForce

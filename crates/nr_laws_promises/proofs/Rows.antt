@@ -1,5 +1,5 @@
 -- The broken runs are the longest rows of bad moments that last long enough, each once and in order.
-use Rattle.std.proofs.Common.{◌≡◌, ◌==◌, ◌⊎◌, inl, inr, ◌↔◌, ℕ, suc, ◌-◌, ◌*◌, eqb-true, leb-true, le-leb, Bool, true, false, ◌&&◌, not, List, [], ◌∷◌, ◌++◌, length, Option, Some, None, refl, ap, sym, subst, ◌∙◌, arith}
+use Rattle.std.proofs.Common.{◌≡◌, ◌==◌, ◌⊎◌, inl, inr, ◌↔◌, ℕ, suc, ◌+◌, ◌*◌, eqb-true, leb-true, le-leb, Bool, true, false, ◌&&◌, not, List, [], ◌∷◌, ◌++◌, length, Option, Some, None, refl, ap, sym, subst, ◌∙◌, arith}
 use Rattle.std.specs.Prelude.{filter, map, slice_get, if◌then◌else◌}
 use Rattle.std.specs.List.{flat_map, list_any}
 use Rattle.std.specs.List.Sorted.{IsStrictlySortedBy}
@@ -21,7 +21,7 @@ use Rattle.nr_spec_promises.specs.Files.{PromiseFile, promise_of}
 use Rattle.nr_spec_promises.specs.Moments.{Mark, View, moments}
 use Rattle.nr_spec_promises.specs.Broken.{fails, is_bad, is_broken, is_file, is_judged, lasts, promise_at}
 use Rattle.nr_spec_promises.specs.Found.{broken_runs, run_at}
-use Rattle.nr_laws_promises.specs.BrokenRows.{AreBrokenRows, IsBadAt, IsBrokenRow, IsJudged, IsOneOf, PlacedRun, place_cmp}
+use Rattle.nr_laws_promises.specs.BrokenRows.{AreBrokenRows, IsBadAt, IsBrokenRow, IsJudged, IsOneOf, IsPromiseAt, PlacedRun, place_cmp}
 use Rattle.nr_laws_promises.proofs.Members.{all_from, all_one, filtered, from_flat, from_mapped, kept_sorted, one_flat, one_mapped, one_right, passed, sorted_flat, sorted_same}
 use Rattle.nr_laws_promises.proofs.Keys.{keys_total, named_is, one_of_keys, among_keys}
 use Rattle.nr_laws_promises.proofs.Sight.{IsGood, good_out_of_sight}
@@ -101,17 +101,15 @@ is_bad_where files truth key promise m is h =
 
 -- ---- the promise
 
-record IsThere (files : List PromiseFile) (key : Key) (promise : Promise) : Type 0 where
-  file : PromiseFile
-  of_files : slice_get files key.file ≡ Some file
-  of_file : slice_get file.promises key.promise ≡ Some promise
-
-is_there : (files : List PromiseFile) (key : Key) (promise : Promise) → promise_at files key ≡ Some promise → IsThere files key promise
+is_there : (files : List PromiseFile) (key : Key) (promise : Promise) → promise_at files key ≡ Some promise → IsPromiseAt files key promise
 is_there files key promise h = by (slice_get files key.file) refl h
   where
-    by : (o : Option PromiseFile) → slice_get files key.file ≡ o → promise_of o key.promise ≡ Some promise → IsThere files key promise
+    by : (o : Option PromiseFile) → slice_get files key.file ≡ o → promise_of o key.promise ≡ Some promise → IsPromiseAt files key promise
     by None e h = absurd cc
     by (Some f) e h = record { file = f; of_files = e; of_file = h }
+
+promise_there : (files : List PromiseFile) (key : Key) (promise : Promise) → IsPromiseAt files key promise → promise_at files key ≡ Some promise
+promise_there files key promise h = ap (λ (o : Option PromiseFile). promise_of o key.promise) h.of_files ∙ h.of_file
 
 -- where a moment is bad a promise is there
 promise_of_bad : (files : List PromiseFile) (truth : Truth) (key : Key) (m : Mark) → is_bad files truth m.view key ≡ true
@@ -121,6 +119,16 @@ promise_of_bad files truth key m h = by (promise_at files key) refl h
     by : (o : Option Promise) → promise_at files key ≡ o → fails truth m.view key o ≡ true → (promise : Promise) × (promise_at files key ≡ Some promise)
     by None e h = absurd cc
     by (Some promise) e h = (promise, e)
+
+pub bad_where : (files : List PromiseFile) (truth : Truth) (key : Key) (m : Mark)
+    → (is_bad files truth m.view key ≡ true) ↔ ((promise : Promise) × IsPromiseAt files key promise × IsBadAt truth key promise m)
+bad_where files truth key m = (
+  λ (h : is_bad files truth m.view key ≡ true).
+      let found = promise_of_bad files truth key m h in
+      (found.0, is_there files key found.0 found.1, bad_is files truth key found.0 m found.1 h),
+  λ (h : (promise : Promise) × IsPromiseAt files key promise × IsBadAt truth key promise m).
+      is_bad_where files truth key h.0 m (promise_there files key h.0 h.1) h.2,
+)
 
 -- ---- of a key
 
@@ -212,10 +220,8 @@ row_of files truth marks to key q r kept =
     let is : promise_at files key ≡ Some promise = there.1 in
     let held = is_there files key promise is in
     record {
-      file = held.file;
       promise = promise;
-      of_files = held.of_files;
-      of_file = held.of_file;
+      there = held;
       front = r.front;
       first = r.first;
       row = r.row;
@@ -231,7 +237,7 @@ row_of files truth marks to key q r kept =
           (sym (ap (first_bad (test_of files truth key)) next) ∙ r.right);
       begins = r.begins;
       ends = r.ends;
-      lasts = leb-true (promise.grace * 1000000) (q.1.end - q.1.begin) (sym (ap (λ o. lasts o q.1) is) ∙ kept);
+      lasts = leb-true (q.1.begin + promise.grace * 1000000) q.1.end (sym (ap (λ o. lasts o q.1) is) ∙ kept);
     }
 
 good_or_bad : {A : Type 0} (b : Bool) → (b ≡ true → A) → (b ≡ false → A) → A
@@ -243,7 +249,7 @@ not_bad true h = absurd (h refl)
 not_bad false h = refl
 
 promise_is : (files : List PromiseFile) (truth : Truth) (marks : List Mark) (to : ℕ) (p : PlacedRun) (r : IsBrokenRow files truth marks to p) → promise_at files p.run.key ≡ Some r.promise
-promise_is files truth marks to p r = ap (λ (o : Option PromiseFile). promise_of o p.run.key.promise) r.of_files ∙ r.of_file
+promise_is files truth marks to p r = promise_there files p.run.key r.promise r.there
 
 of_row : (files : List PromiseFile) (truth : Truth) (marks : List Mark) (to : ℕ) (p : PlacedRun) → IsBrokenRow files truth marks to p
     → Row (test_of files truth p.run.key) false 0 to marks (p.place, p.run.span)
@@ -325,7 +331,7 @@ row_is_over files truth base period entries p r = one_flat (rows_at files truth 
         (good_out_of_sight files truth base period entries key (λ (one : IsOneOf key keys). clash (list_any (same_key key) keys) (among_keys key keys one) none)) first_there))
 
     kept : is_kept files key (p.place, p.run.span) ≡ true
-    kept = ap (λ o. lasts o p.run.span) is ∙ le-leb (r.promise.grace * 1000000) (p.run.span.end - p.run.span.begin) r.lasts
+    kept = ap (λ o. lasts o p.run.span) is ∙ le-leb (p.run.span.begin + r.promise.grace * 1000000) p.run.span.end r.lasts
 
     here : IsOneOf p (rows_at files truth marks period.to key)
     here =

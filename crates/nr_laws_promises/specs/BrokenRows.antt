@@ -1,5 +1,6 @@
 -- The broken runs in a reader's words: of each promise and prefix the longest rows of neighbouring bad moments.
-use Rattle.std.specs.Prelude.{◌≡◌, ◌≤◌, ◌⊎◌, ◌↔◌, ℕ, ◌-◌, ◌*◌, true, false, List, [], ◌∷◌, ◌++◌, length, map, Some, slice_get}
+use Rattle.std.specs.Prelude.{◌≡◌, ◌≤◌, ◌⊎◌, ◌↔◌, ℕ, ◌+◌, ◌*◌, true, false, List, [], ◌∷◌, ◌++◌, length}
+use Rattle.std.specs.Prelude.{map, Some, slice_get}
 use Rattle.std.specs.List.{AllByRecursion}
 use Rattle.std.specs.List.Sorted.{IsStrictlySortedBy}
 use Rattle.std.specs.declared.cmp.Ordering.{Ordering}
@@ -15,6 +16,12 @@ use Rattle.nr_spec_promises.specs.Moments.{Mark, View}
 abbrev pub IsOneOf : {X : Type 0} → X → List X → Type 0
 IsOneOf x [] = ⊥
 IsOneOf x (y ∷ ys) = (x ≡ y) ⊎ IsOneOf x ys
+
+-- The promise of a key is there.
+pub record IsPromiseAt (files : List PromiseFile) (key : Key) (promise : Promise) : Type 0 where
+  pub file : PromiseFile
+  pub of_files : slice_get files key.file ≡ Some file
+  pub of_file : slice_get file.promises key.promise ≡ Some promise
 
 -- A promise that names no prefix by `at` is judged on those that stand, and another on those that it names.
 abbrev pub IsJudged : Promise → View → Cidr → Type 0
@@ -41,10 +48,8 @@ pub record PlacedRun : Type 0 where
 -- the grace, which is in seconds.
 pub record IsBrokenRow (files : List PromiseFile) (truth : Truth) (marks : List Mark) (to : ℕ) (p : PlacedRun)
     : Type 0 where
-  pub file : PromiseFile
   pub promise : Promise
-  pub of_files : slice_get files p.run.key.file ≡ Some file
-  pub of_file : slice_get file.promises p.run.key.promise ≡ Some promise
+  pub there : IsPromiseAt files p.run.key promise
   pub front : List Mark
   pub first : Mark
   pub row : List Mark
@@ -57,7 +62,7 @@ pub record IsBrokenRow (files : List PromiseFile) (truth : Truth) (marks : List 
   pub after : (m : Mark) (later : List Mark) → back ≡ m ∷ later → IsBadAt truth p.run.key promise m → ⊥
   pub begins : p.run.span.begin ≡ first.begin
   pub ends : p.run.span.end ≡ begin_of to back
-  pub lasts : promise.grace * 1000000 ≤ p.run.span.end - p.run.span.begin
+  pub lasts : p.run.span.begin + promise.grace * 1000000 ≤ p.run.span.end
 
 -- by file, promise and prefix, and those of one promise and prefix in the order in which they begin
 abbrev pub place_cmp : PlacedRun → PlacedRun → Ordering

@@ -1,5 +1,5 @@
 -- At which moments a promise is bad, and which runs of bad moments break it.
-use Rattle.std.specs.Prelude.{◌≡◌, ℕ, ◌-◌, ◌*◌, ◌==◌, ◌&&◌, not, Bool, false, List, length, map, filter, nat_le, Option, None, Some, slice_get, if◌then◌else◌, IsSortedByKey}
+use Rattle.std.specs.Prelude.{◌≡◌, ℕ, ◌+◌, ◌*◌, ◌==◌, ◌&&◌, not, Bool, false, List, length, map, filter, nat_le, Option, None, Some, slice_get, if◌then◌else◌, IsSortedByKey}
 use Rattle.nr_spec_bgp.specs.Prefixes.{Cidr}
 use Rattle.nr_spec_routes.specs.Keys.{is_named}
 use Rattle.nr_spec_typing.specs.declared.text.Promise.{Promise}
@@ -38,10 +38,10 @@ is_bad files truth view key = fails truth view key (promise_at files key)
 abbrev pub moment_at : List PromiseFile → Truth → Key → Mark → Moment
 moment_at files truth key mark = record { begin = mark.begin; bad = is_bad files truth mark.view key }
 
--- at least the grace of a promise, which is in seconds
+-- it ends at least the grace of a promise after it begins, which is in seconds
 abbrev pub lasts : Option Promise → Span → Bool
 lasts None span = false
-lasts (Some promise) span = nat_le (promise.grace * 1000000) (span.end - span.begin)
+lasts (Some promise) span = nat_le (span.begin + promise.grace * 1000000) span.end
 
 -- A run is broken where it lasts at least as long as the grace of its promise.
 abbrev pub is_broken : List PromiseFile → Key → Span → Bool
