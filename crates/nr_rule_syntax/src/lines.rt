@@ -2,12 +2,13 @@
 
 ghost use Rattle.std.specs.Prelude.{◌≡◌, ◌++◌, map, drop, codes, OnOk, IfOk};
 ghost use Rattle.nr_rule_syntax.specs.Printing as spec;
+ghost use Rattle.nr_rule_syntax.specs.declared.tree.Decl.TheVariants.{Neighbour, Group, Define, Promise};
 ghost use Rattle.std.specs.List.{All};
 ghost use Rattle.nr_rule_syntax.specs.Nesting.{IsNested};
 
 use crate::printing::put_form;
 use crate::put::{put_address, put_key, put_name, put_number, put_pattern};
-use crate::tree::{Decl, File, Name, PatternText, PrefixText};
+use crate::tree::{Decl, File, Form, Name, Num, PatternText, PrefixText, RootText};
 use nr_bytes::{Memory, put_bytes};
 use std::alloc::Global;
 
@@ -109,6 +110,60 @@ fn put_head(out: &mut Vec<u8>, word: &[u8], name: &Name, behind: &[u8]) -> Resul
     put_bytes(out, behind)
 }
 
+fn put_neighbour(
+    out: &mut Vec<u8>,
+    name: &Name,
+    asn: Num,
+    addr: Num,
+    key: &Option<(RootText, Num)>,
+) -> Result<(), Memory>
+    ensures { OnOk result
+        (out.new.items ≡ out.old.items ++ spec.declaration_text (Neighbour name.now asn addr key.now)) }
+{
+    put_head(out, b"neighbour ", name, b" as ")?;
+    put_number(out, asn.value)?;
+    put_bytes(out, b" at ")?;
+    put_address(out, addr.value)?;
+    put_key(out, key)?;
+    put_bytes(out, b";\n")
+}
+
+fn put_group(out: &mut Vec<u8>, name: &Name, members: &[Name]) -> Result<(), Memory>
+    ensures { OnOk result
+        (out.new.items ≡ out.old.items ++ spec.declaration_text (Group name.now members.now)) }
+{
+    put_head(out, b"group ", name, b" = ")?;
+    put_names(out, members)?;
+    put_bytes(out, b";\n")
+}
+
+fn put_define(out: &mut Vec<u8>, name: &Name, patterns: &[PatternText]) -> Result<(), Memory>
+    ensures { OnOk result
+        (out.new.items ≡ out.old.items ++ spec.declaration_text (Define name.now patterns.now)) }
+{
+    put_head(out, b"define ", name, b" = ")?;
+    put_patterns(out, patterns)?;
+    put_bytes(out, b";\n")
+}
+
+fn put_promise(
+    out: &mut Vec<u8>,
+    name: &Name,
+    grace: Num,
+    at: &[PrefixText],
+    form: &Form,
+) -> Result<(), Memory>
+    ensures { OnOk result
+        (out.new.items ≡ out.old.items ++ spec.declaration_text (Promise name.now grace at.now form.now)) }
+{
+    put_head(out, b"promise ", name, b" grace ")?;
+    put_number(out, grace.value)?;
+    put_places(out, at)?;
+    put_bytes(out, b" { ")?;
+    put_form(out, form)?;
+    put_bytes(out, b" }\n")
+}
+
 fn put_declaration(out: &mut Vec<u8>, declaration: &Decl) -> Result<(), Memory>
     ensures { OnOk result (out.new.items ≡ out.old.items ++ spec.declaration_text declaration.now) }
 {
@@ -120,37 +175,15 @@ fn put_declaration(out: &mut Vec<u8>, declaration: &Decl) -> Result<(), Memory>
             asn,
             addr,
             key,
-        } => {
-            put_head(out, b"neighbour ", name, b" as ")?;
-            put_number(out, asn.value)?;
-            put_bytes(out, b" at ")?;
-            put_address(out, addr.value)?;
-            put_key(out, key)?;
-            put_bytes(out, b";\n")
-        }
-        Decl::Group { name, members } => {
-            put_head(out, b"group ", name, b" = ")?;
-            put_names(out, members.as_slice())?;
-            put_bytes(out, b";\n")
-        }
-        Decl::Define { name, patterns } => {
-            put_head(out, b"define ", name, b" = ")?;
-            put_patterns(out, patterns.as_slice())?;
-            put_bytes(out, b";\n")
-        }
+        } => put_neighbour(out, name, *asn, *addr, key),
+        Decl::Group { name, members } => put_group(out, name, members.as_slice()),
+        Decl::Define { name, patterns } => put_define(out, name, patterns.as_slice()),
         Decl::Promise {
             name,
             grace,
             at,
             form,
-        } => {
-            put_head(out, b"promise ", name, b" grace ")?;
-            put_number(out, grace.value)?;
-            put_places(out, at.as_slice())?;
-            put_bytes(out, b" { ")?;
-            put_form(out, form)?;
-            put_bytes(out, b" }\n")
-        }
+        } => put_promise(out, name, *grace, at.as_slice(), form),
     }
 }
 

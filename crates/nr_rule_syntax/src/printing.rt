@@ -1,10 +1,10 @@
 //! The one text of a file.
 
-ghost use Rattle.std.specs.Prelude.{◌≡◌, ◌++◌, map, drop, OnOk};
+ghost use Rattle.std.specs.Prelude.{◌≡◌, ◌++◌, ◌∷◌, [], map, drop, codes, OnOk};
 ghost use Rattle.nr_rule_syntax.specs.Printing as spec;
 
 use crate::put::{put_bound, put_comparison, put_crosses, put_has, put_name, put_pair, put_route};
-use crate::tree::Form;
+use crate::tree::{Form, Name};
 use nr_bytes::{Memory, put_bytes};
 
 // How tightly a formula binds.
@@ -27,9 +27,50 @@ fn put_within(out: &mut Vec<u8>, form: &Form, least: u8) -> Result<(), Memory>
     if binds(form) >= least {
         return put_form(out, form);
     }
-    put_bytes(out, b"(")?;
+    put_between(out, b"(", form, b")")
+}
+
+// A formula between two words.
+#[cycle(print)]
+fn put_between(out: &mut Vec<u8>, before: &[u8], form: &Form, behind: &[u8]) -> Result<(), Memory>
+    ensures { OnOk result
+        (out.new.items
+        ≡ out.old.items ++ spec.spelled (before.now ∷ (spec.printed form.now).text ∷ behind.now ∷ [])) }
+{
+    put_bytes(out, before)?;
     put_form(out, form)?;
-    put_bytes(out, b")")
+    put_bytes(out, behind)
+}
+
+// A word, and a formula that must bind as tightly as this.
+#[cycle(print)]
+fn put_behind(out: &mut Vec<u8>, word: &[u8], form: &Form, least: u8) -> Result<(), Memory>
+    ensures { OnOk result
+        (out.new.items ≡ out.old.items ++ spec.spelled (word.now ∷ spec.within least (spec.printed form.now) ∷ [])) }
+{
+    put_bytes(out, word)?;
+    put_within(out, form, least)
+}
+
+// `all` or `some`, a variable, its group, and what is said of its members.
+#[cycle(print)]
+fn put_each(
+    out: &mut Vec<u8>,
+    word: &[u8],
+    var: &Name,
+    group: &Name,
+    form: &Form,
+) -> Result<(), Memory>
+    ensures { OnOk result
+        (out.new.items
+        ≡ out.old.items
+        ++ spec.spelled
+        (word.now ∷ spec.pair_text var.now (codes " in ") group.now ∷ codes " { " ∷ (spec.printed form.now).text
+        ∷ codes " }" ∷ [])) }
+{
+    put_bytes(out, word)?;
+    put_pair(out, var, b" in ", group)?;
+    put_between(out, b" { ", form, b" }")
 }
 
 // The members of an `and` or `or` after the first.
@@ -40,8 +81,7 @@ fn put_more(out: &mut Vec<u8>, members: &[Form], between: &[u8], least: u8) -> R
         ++ spec.each_behind between.now (map (spec.within least) (map spec.printed (drop 1 members.now)))) }
 {
     for at in 1..members.len() {
-        put_bytes(out, between)?;
-        put_within(out, &members[at], least)?;
+        put_behind(out, between, &members[at], least)?;
     }
     Ok(())
 }
@@ -61,6 +101,15 @@ fn put_members(out: &mut Vec<u8>, members: &[Form], between: &[u8], least: u8) -
     }
 }
 
+// `prefix in NAME`
+fn put_in_set(out: &mut Vec<u8>, set: &Name) -> Result<(), Memory>
+    ensures { OnOk result
+        (out.new.items ≡ out.old.items ++ spec.spelled (codes "prefix in " ∷ set.now.word ∷ [])) }
+{
+    put_bytes(out, b"prefix in ")?;
+    put_name(out, set)
+}
+
 #[cycle(print)]
 pub fn put_form(out: &mut Vec<u8>, form: &Form) -> Result<(), Memory>
     ensures { OnOk result (out.new.items ≡ out.old.items ++ (spec.printed form.now).text) }
@@ -68,10 +117,7 @@ pub fn put_form(out: &mut Vec<u8>, form: &Form) -> Result<(), Memory>
     match form {
         Form::True => put_bytes(out, b"true"),
         Form::False => put_bytes(out, b"false"),
-        Form::Not(held) => {
-            put_bytes(out, b"not ")?;
-            put_within(out, held.get(), 3)
-        }
+        Form::Not(held) => put_behind(out, b"not ", held.get(), 3),
         Form::And(members) => put_members(out, members.as_slice(), b" and ", 3),
         Form::Or(members) => put_members(out, members.as_slice(), b" or ", 2),
         Form::Implies(left, right) => {
@@ -79,20 +125,8 @@ pub fn put_form(out: &mut Vec<u8>, form: &Form) -> Result<(), Memory>
             put_bytes(out, b" implies ")?;
             put_form(out, right.get())
         }
-        Form::All { var, group, form } => {
-            put_bytes(out, b"all ")?;
-            put_pair(out, var, b" in ", group)?;
-            put_bytes(out, b" { ")?;
-            put_form(out, form.get())?;
-            put_bytes(out, b" }")
-        }
-        Form::Some { var, group, form } => {
-            put_bytes(out, b"some ")?;
-            put_pair(out, var, b" in ", group)?;
-            put_bytes(out, b" { ")?;
-            put_form(out, form.get())?;
-            put_bytes(out, b" }")
-        }
+        Form::All { var, group, form } => put_each(out, b"all ", var, group, form.get()),
+        Form::Some { var, group, form } => put_each(out, b"some ", var, group, form.get()),
         Form::If {
             var,
             side,
@@ -102,18 +136,13 @@ pub fn put_form(out: &mut Vec<u8>, form: &Form) -> Result<(), Memory>
         } => {
             put_bound(out, var, *side, of)?;
             put_form(out, yes.get())?;
-            put_bytes(out, b" else ")?;
-            put_form(out, no.get())?;
-            put_bytes(out, b" end")
+            put_between(out, b" else ", no.get(), b" end")
         }
         Form::Stands { side, of } => put_route(out, *side, of),
         Form::Has { var, community } => put_has(out, var, *community),
         Form::Crosses { var, term } => put_crosses(out, var, term),
         Form::Is { left, right } => put_pair(out, left, b" is ", right),
-        Form::PrefixIn { set } => {
-            put_bytes(out, b"prefix in ")?;
-            put_name(out, set)
-        }
+        Form::PrefixIn { set } => put_in_set(out, set),
         Form::Compare { left, op, right } => put_comparison(out, left, *op, right),
     }
 }
