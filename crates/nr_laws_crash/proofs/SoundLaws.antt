@@ -8,6 +8,7 @@ use Rattle.std.proofs.lemmas.List.{length-append, length-take, length-drop}
 use Rattle.nr_spec_plans.specs.Disk.{Disk, Told, Loose, Fault, ReadFault, WriteFault, Memory, moment_of, ticking, settled, loose_by_write, loose_by_cut, bytes_of, size_of, written, cut_to, TornWrite, TornCut, Torn, ChangesOnly, Leaves}
 use Rattle.nr_spec_plans.specs.Plans.{Action, Acts, Ask, Read, Cut, Write, Sync, Plan, Done, Refuse, Room, Act, Halt, Runs}
 use Rattle.nr_spec_plans.specs.Laws.{Each, Kept}
+use Rattle.nr_spec_crash.specs.Images.{IsImage}
 use Rattle.nr_spec_crash.specs.Crashes.{MayLeave, IsSound}
 use Rattle.nr_spec_plans.proofs.PlanLaws.{step_keeps}
 use Rattle.nr_laws_crash.proofs.CrashLaws.{was_told, field_kept, KeepsBy, run_keeps}
@@ -100,3 +101,10 @@ pub read_is_image : {E A : Type 0} (name : List ℕ) (p : Plan E A) (old new : D
 read_is_image name p old new result sound runs =
     let s = run_keeps (IsSound name) p old new result (each_sound name p) sound runs in
     (s.now, s.told, (s.now, s.told, held_image (moment_of s.now) name s.least s.greatest))
+
+-- What a read gives is an image.
+pub sound_image : (name : List ℕ) (d : Disk) (t : Told) → IsSound name d → d.told ≡ Some t → IsImage (moment_of t) name (bytes_of (t.holds name))
+sound_image name d t sound told =
+    let both : Some t ≡ Some sound.now = sym told ∙ sound.told in
+    let same : t ≡ sound.now = cc in
+    subst (λ (u : Told). IsImage (moment_of u) name (bytes_of (u.holds name))) (sym same) (held_image (moment_of sound.now) name sound.least sound.greatest)

@@ -1,7 +1,9 @@
 //! What a crash leaves of a file, by what was done to it.
 
-ghost use Rattle.std.specs.Prelude.{◌≡◌, ◌≤◌, ℕ, List, length};
-ghost use Rattle.nr_spec_plans.specs.Disk.{Loose, Moment, TornWrite, bytes_of, loose_by_write, settled, written};
+ghost use Rattle.std.specs.Prelude.{◌≡◌, ◌≤◌, ℕ, List, Some, Result, length};
+ghost use Rattle.nr_spec_plans.specs.Disk.{Disk, Fault, Loose, Moment, Told, TornWrite, bytes_of, loose_by_write, moment_of, settled, written};
+ghost use Rattle.nr_spec_plans.specs.Plans.{Action, Answer, Acts};
+ghost use Rattle.nr_spec_crash.specs.Crashes.{IsSound};
 ghost use Rattle.nr_spec_crash.specs.Images.{IsImage, IsImageOf, IsPending};
 
 /// Of a file that is all on the disk a crash leaves what a read gives.
@@ -29,4 +31,16 @@ pub fn a_torn_write_counts_as_a_whole_one()
     ensures { (at : ℕ) (from file torn image : List ℕ) (l : Loose) → at ≤ length file
         → TornWrite at (length from) file torn → IsImageOf (loose_by_write at (length from) (length file) l) torn image
         → IsImageOf (loose_by_write at (length from) (length file) l) (written at from file) image }
+{}
+
+/// What a read gives is itself an image, where its length lies between the least and the greatest.
+pub fn what_is_read_is_an_image()
+    ensures { (name : List ℕ) (d : Disk) (t : Told) → IsSound name d → d.told ≡ Some t
+        → IsImage (moment_of t) name (bytes_of (t.holds name)) }
+{}
+
+/// Where it lies there before a step it does after it, whatever the step was and answered.
+pub fn steps_keep_lengths_between()
+    ensures { (name : List ℕ) (action : Action) (old mid : Disk) (got : Result (Answer action) Fault)
+        → IsSound name old → Acts action old mid got → IsSound name mid }
 {}

@@ -7,5 +7,5 @@ mod images;
 
 pub use images::{
     a_settled_file_is_left, a_torn_write_counts_as_a_whole_one, nothing_settled_is_pending,
-    written_bytes_may_be_any,
+    steps_keep_lengths_between, what_is_read_is_an_image, written_bytes_may_be_any,
 };

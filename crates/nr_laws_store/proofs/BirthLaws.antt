@@ -3,25 +3,28 @@ use Rattle.std.proofs.Common.{◌≡◌, ◌≢◌, ℕ, ◌+◌, ◌<◌, ◌�
 use Rattle.std.specs.Prelude.{option_map, unwrap_or, nat_lt}
 use Rattle.std.proofs.lemmas.Bool.{ltb-true, ltb-false}
 use Rattle.std.proofs.lemmas.Bool.Decides.{eqb_tells}
-use Rattle.std.proofs.lemmas.List.{length-append, take_at, drop_more}
+use Rattle.std.proofs.lemmas.List.{length-append, length-drop, take_at, drop_more}
 use Rattle.std.proofs.Math.Seq.{drop-append-add}
 use Rattle.nr_spec_plans.specs.Disk.{Disk, Told, Moment, bytes_of, size_of, written}
-use Rattle.nr_spec_plans.specs.Plans.{Done, Acts, Halt, Runs, followed_by, Ask, ◌>>=◌}
+use Rattle.nr_spec_plans.specs.Plans.{Done, Acts, Halt, Refused, Runs, followed_by, Ask, ◌>>=◌}
 use Rattle.nr_spec_plans.specs.Laws.{Kept}
 use Rattle.nr_spec_plans.proofs.PlanLaws.{taken_apart, step_keeps}
 use Rattle.nr_spec_crash.specs.Images.{IsImage}
-use Rattle.nr_spec_crash.specs.Crashes.{MayLeave, Sometime, Crashes, Rests, IsWithin}
+use Rattle.nr_spec_crash.specs.Crashes.{MayLeave, Sometime, Crashes, Rests, IsWithin, IsSound}
 use Rattle.nr_spec_crash.specs.Firm.{firm}
-use Rattle.nr_laws_crash.proofs.CrashLaws.{crash_sequence, crash_after, done_crash, sometime_kept, was_told, field_kept}
-use Rattle.nr_laws_crash.proofs.ImageLaws.{place_of_take}
-use Rattle.nr_laws_crash.proofs.FirmLaws.{firm_rests, rests_image, rests_kept, within_kept, within_left, firm_keeps_within}
+use Rattle.nr_laws_crash.proofs.CrashLaws.{crash_sequence, crash_after, done_crash, run_keeps, sometime_kept, was_told, field_kept}
+use Rattle.nr_laws_crash.proofs.ImageLaws.{place_of_take, written_torn}
+use Rattle.nr_laws_crash.proofs.SoundLaws.{read_is_image}
+use Rattle.nr_laws_crash.proofs.FirmLaws.{some_told, written_size, firm_rests, rests_image, rests_kept, within_kept, within_left, firm_keeps_within}
 use Rattle.nr_spec_log.specs.Authenticator.{digest_size}
-use Rattle.nr_spec_store.specs.LogFile.{LogFile, log_of, born}
-use Rattle.nr_spec_store.specs.StorePlans.{Refusal, Work, within_limit, gate_plan, close_plan, birth_plan}
-use Rattle.nr_spec_store.specs.StoreCrashes.{AwaitsBirth, IsUnbornOrBorn, Holds}
+use Rattle.nr_spec_store.specs.LogFile.{LogFile, log_of, born, most_log}
+use Rattle.nr_spec_store.specs.StorePlans.{Refusal, Work, within_limit, loading, gate_plan, close_plan, birth_plan}
+use Rattle.nr_spec_store.specs.StoreCrashes.{AwaitsBirth, IsUnbornOrBorn, Keeps}
 use Rattle.nr_laws_store.proofs.LogLaws.{IsUnborn, none_unborn, unborn_none}
-use Rattle.nr_laws_store.proofs.Grown.{born_reads, born_in, opened_after}
-use Rattle.nr_laws_store.proofs.GateLaws.{AreImages, gate_crash, gate_ok, limit_crash, limit_ok, done_value}
+use Rattle.nr_laws_store.proofs.Grown.{born_length, born_reads, born_in, opened_after}
+use Rattle.nr_laws_store.proofs.GateLaws.{AreImages, Never, firm_never, gate_crash, gate_never, gate_ok, limit_crash, limit_ok, limit_refuses, limit_stops, never_followed, done_value, opened_size}
+use Rattle.nr_laws_store.proofs.Loads.{loads_as, read_as, small_as}
+use Rattle.nr_laws_store.proofs.Lengths.{birth_each, crash_length, rests_within, run_small, within_more, IsSmall}
 
 -- A file begins with an open birth gate and these bytes after it.
 abbrev pub IsBorn : List ℕ → List ℕ → Type 0
@@ -58,10 +61,22 @@ IsShort name d = IsWithin name 43 d
 
 -- what a crash leaves where a birth is awaited has no log
 awaits_left : (name image : List ℕ) (d : Disk) → AwaitsBirth d name → MayLeave d name image → IsUnborn image
-awaits_left name image d (inl (file, rests, unborn)) left = subst IsUnborn (sym (rests_image d name file image rests left)) (none_unborn file unborn)
+awaits_left name image d (inl (file, rests, unborn)) left = subst IsUnborn (sym (rests_image d name file image rests left)) (none_unborn file (read_as file None unborn))
 awaits_left name image d (inr within) left = inl (omega (arith, within_left d name image 43 within left))
 
-awaits_kept : (name : List ℕ) (old new : Disk) → Kept name old.told new.told → AwaitsBirth old name → AwaitsBirth new name
+-- what a crash leaves then loads as none
+pub awaits_loads : (name image : List ℕ) (d : Disk) → AwaitsBirth d name → MayLeave d name image → loading image ≡ Ok None
+awaits_loads name image d (inl (file, rests, unborn)) left = subst (λ (f : List ℕ). loading f ≡ Ok None) (sym (rests_image d name file image rests left)) unborn
+awaits_loads name image d (inr within) left =
+    let short = within_left d name image 43 within left in
+    loads_as image None (omega (arith, short)) (unborn_none image (inl (omega (arith, short))))
+
+-- it is within the limit
+awaits_small : (name : List ℕ) (d : Disk) → AwaitsBirth d name → IsSmall name d
+awaits_small name d (inl (file, rests, unborn)) = rests_within name file most_log d rests (small_as file None unborn)
+awaits_small name d (inr within) = within_more name 43 most_log d (omega arith) within
+
+pub awaits_kept : (name : List ℕ) (old new : Disk) → Kept name old.told new.told → AwaitsBirth old name → AwaitsBirth new name
 awaits_kept name old new kept (inl (file, rests, unborn)) = inl (file, rests_kept old new name file kept rests, unborn)
 awaits_kept name old new kept (inr within) = inr (within_kept name 43 old new kept within)
 
@@ -97,7 +112,7 @@ awaits_long name d t told more (inl (file, rests, unborn)) =
     let same = same_told d rests.now t rests.told told in
     let size : 44 ≤ size_of rests.now name = subst (λ (t : Told). 44 ≤ size_of t name) same more in
     let len : 44 ≤ length file = subst (λ (f : List ℕ). 44 ≤ length f) rests.bytes size in
-    record { file = file; rests = rests; some = omega (arith, len); closed = ⊎_elim (λ (short : length file < 44). absurd (omega (arith, short, len))) (λ (ne : get_or file 0 0 ≢ 1). ne) (none_unborn file unborn) }
+    record { file = file; rests = rests; some = omega (arith, len); closed = ⊎_elim (λ (short : length file < 44). absurd (omega (arith, short, len))) (λ (ne : get_or file 0 0 ≢ 1). ne) (none_unborn file (read_as file None unborn)) }
 
 -- after the closed gate
 closed_room : (name : List ℕ) (old new : Disk) (t : Told) → old.told ≡ Some t → Runs {E = Refusal} (firm name 0 (0 ∷ [])) old new (Ok tt) → HasRoom new name
@@ -173,10 +188,15 @@ birth_crash name asn root image old awaits (inr (mid, Ok size, acts, crash)) =
     let a = asked_size name size old mid t.0 t.1 acts in
     sized_crash name image (unwrap_or size 0) (born asn root) mid a.now a.told a.size_is (awaits_kept name old mid (step_keeps name (Ask name) old mid (Ok size) tt acts) awaits) crash
 
+-- what is left loads as no log, or as one without entries
+loads_either : (asn : ℕ) (root image : List ℕ) → asn < 2 ^ 32 → length root ≡ digest_size → length image ≤ most_log → IsUnborn image ⊎ IsBorn (drop 1 (born asn root).front) image → IsUnbornOrBorn (born asn root) image
+loads_either asn root image small size length_is (inl unborn) = inl (loads_as image None length_is (unborn_none image unborn))
+loads_either asn root image small size length_is (inr given) = inr (loads_as image (Some (born asn root)) length_is (ap log_of given.1 ∙ born_reads asn root given.0 small size))
+
 -- A crash at any moment of a birth leaves no log, or one without entries.
 pub birth_leaves : (name : List ℕ) (asn : ℕ) (root image : List ℕ) (old : Disk) → asn < 2 ^ 32 → length root ≡ digest_size → AwaitsBirth old name → Crashes (birth_plan name asn root) old name image → IsUnbornOrBorn (born asn root) image
 birth_leaves name asn root image old small size awaits crash =
-    ⊎_elim (λ unborn. inl (unborn_none image unborn)) (λ given. inr (ap log_of given.1 ∙ born_reads asn root given.0 small size)) (birth_crash name asn root image old awaits crash)
+    loads_either asn root image small size (crash_length name image (birth_plan name asn root) old (birth_each name asn root size) (awaits_small name old awaits) crash) (birth_crash name asn root image old awaits crash)
 
 -- However a birth ended, a crash after it leaves the same.
 pub birth_stop_leaves : (name : List ℕ) (asn : ℕ) (root image : List ℕ) (old new : Disk) (result : Result LogFile (Halt Refusal)) → asn < 2 ^ 32 → length root ≡ digest_size → AwaitsBirth old name → Runs (birth_plan name asn root) old new result
@@ -184,61 +204,217 @@ pub birth_stop_leaves : (name : List ℕ) (asn : ℕ) (root image : List ℕ) (o
 birth_stop_leaves name asn root image old new result small size awaits runs left =
     birth_leaves name asn root image old small size awaits (crash_after (birth_plan name asn root) old new result (λ m. IsImage m name image) runs left)
 
+-- ---- what a read gives
+
+awaits_read : (name : List ℕ) (d : Disk) (t : Told) → d.told ≡ Some t → AwaitsBirth d name → IsUnborn (bytes_of (t.holds name))
+awaits_read name d t told (inl (file, rests, unborn)) =
+    let same = same_told d rests.now t rests.told told in
+    subst (λ (t : Told). IsUnborn (bytes_of (t.holds name))) (sym same) (subst IsUnborn (sym rests.bytes) (none_unborn file (read_as file None unborn)))
+awaits_read name d t told (inr within) =
+    let same = same_told d within.now t within.told told in
+    let size : size_of t name ≤ 43 = subst (λ (t : Told). size_of t name ≤ 43) (sym same) within.size in
+    inl (omega (arith, size))
+
+-- What a stop leaves to a read: no log, or one without entries; and where the name is absent a birth may be tried again.
+pub record Stops (name body : List ℕ) (new : Disk) (u : Told) : Type 0 where
+  pub reads : IsUnborn (bytes_of (u.holds name)) ⊎ IsBorn body (bytes_of (u.holds name))
+  pub absent : u.holds name ≡ None → IsWithin name 43 new
+
+awaits_absent : (name : List ℕ) (d : Disk) (t : Told) → d.told ≡ Some t → AwaitsBirth d name → t.holds name ≡ None → IsWithin name 43 d
+awaits_absent name d t told (inr within) none = within
+awaits_absent name d t told (inl (file, rests, unborn)) none =
+    let same = same_told d rests.now t rests.told told in
+    let size : size_of t name ≡ 0 = ap (λ (h : Option (List ℕ)). length (bytes_of h)) none in
+    let now_size : size_of rests.now name ≡ 0 = subst (λ (u : Told). size_of u name ≡ 0) same size in
+    rests_within name file 43 d rests (omega (arith, now_size, ap length rests.bytes))
+
+awaits_stops : (name body : List ℕ) (d : Disk) (u : Told) → d.told ≡ Some u → AwaitsBirth d name → Stops name body d u
+awaits_stops name body d u told awaits = record { reads = inl (awaits_read name d u told awaits); absent = awaits_absent name d u told awaits }
+
+image_some : (body file image : List ℕ) → 1 ≤ length file → AreImages 1 body file image → 1 ≤ length image
+image_some body file image some (inl torn) = omega (arith, some, torn.no_shorter)
+image_some body file image some (inr torn) = omega (arith, some, torn.no_shorter, (written_torn 1 body file some).no_shorter)
+
+-- of the writes of a birth into a file that rests
+opens_stops : (name body : List ℕ) (old new : Disk) (u : Told) (result : Result (Unit {0}) (Halt Refusal)) → HasRoom old name → Runs (gate_plan name 1 body) old new result → new.told ≡ Some u → Stops name body new u
+opens_stops name body old new u result room runs told =
+    let r = room.rests in
+    let size : size_of r.now name ≡ length room.file = ap length r.bytes in
+    let sound : IsSound name old = record { now = r.now; told = r.told; least = rw (r.loose) (omega (arith, size)); greatest = rw (r.loose) (omega (arith, size)) } in
+    let image = read_is_image name (gate_plan name 1 body) old new result sound runs in
+    let same : u ≡ image.0 = some_told new.told image.0 u image.1 told in
+    let crash = crash_after (gate_plan name 1 body) old new result (λ m. IsImage m name (bytes_of (image.0.holds name))) runs image.2 in
+    let left : AreImages 1 body room.file (bytes_of (u.holds name)) = subst (λ (v : Told). AreImages 1 body room.file (bytes_of (v.holds name))) (sym same) (gate_crash name 1 body room.file (bytes_of (image.0.holds name)) old r (omega arith) room.some crash) in
+    record {
+      reads = born_images body room.file (bytes_of (u.holds name)) room.some room.closed left;
+      absent = λ none.
+          let size : length (bytes_of (u.holds name)) ≡ 0 = ap (λ (h : Option (List ℕ)). length (bytes_of h)) none in
+          absurd (omega (arith, size, image_some body room.file (bytes_of (u.holds name)) room.some left));
+    }
+
+done_ran : (v : LogFile) (old new : Disk) (result : Result LogFile (Halt Refusal)) → Runs (Done v) old new result → new ≡ old
+unfolding Runs
+done_ran v old new result (same, is) = same
+
+closed_room_by : (name : List ℕ) (old new : Disk) (t : Told) (x : Unit {0}) → old.told ≡ Some t → Runs {E = Refusal} (firm name 0 (0 ∷ [])) old new (Ok x) → HasRoom new name
+closed_room_by name old new t tt told runs = closed_room name old new t told runs
+
+gate_stops : (name : List ℕ) (log : LogFile) (old new : Disk) (u : Told) (result : Result LogFile (Halt Refusal)) → HasRoom old name → Runs (gate_plan name 1 (drop 1 log.front) >>= (λ opened. Done log)) old new result → new.told ≡ Some u
+    → Stops name (drop 1 log.front) new u
+gate_stops name log old new u result room runs told =
+    let gate = gate_plan name 1 (drop 1 log.front) in
+    ⊎_elim
+    (λ w.
+    let same = done_ran log w.0 new result w.3 in
+    subst (λ (d : Disk). Stops name (drop 1 log.front) d u) (sym same) (opens_stops name (drop 1 log.front) old w.0 u (Ok w.1) room w.2 (ap (λ (d : Disk). d.told) (sym same) ∙ told)))
+    (λ w. opens_stops name (drop 1 log.front) old new u (Err w.0) room w.1 told)
+    (taken_apart gate (λ opened. Done log) old new result runs)
+
+closing_stops : (name : List ℕ) (size : ℕ) (log : LogFile) (old new : Disk) (t u : Told) (result : Result LogFile (Halt Refusal)) (b : Bool) → nat_lt size 44 ≡ b → old.told ≡ Some t → size ≡ size_of t name → AwaitsBirth old name
+    → Runs (closing name size log) old new result → new.told ≡ Some u → Stops name (drop 1 log.front) new u
+unfolding close_plan followed_by
+closing_stops name size log old new t u result true is told at awaits runs now =
+    let less : size_of t name < 44 = omega (arith, ltb-true _ _ is, at) in
+    let within = awaits_short name old t told less awaits in
+    let r = rw is at runs in
+    ⊎_elim
+    (λ w. gate_stops name log w.0 new u result (closed_room_by name old w.0 t w.1 told w.2) w.3 now)
+    (λ w.
+    let still = run_keeps (IsWithin name 43) (firm {E = Refusal} name 0 (0 ∷ [])) old new (Err w.0) (firm_keeps_within Refusal name 0 (0 ∷ []) 43 (omega arith)) within w.1 in
+    awaits_stops name (drop 1 log.front) new u now (inr still))
+    (taken_apart (firm {E = Refusal} name 0 (0 ∷ [])) (λ closed. gate_plan name 1 (drop 1 log.front) >>= (λ opened. Done log)) old new result r)
+closing_stops name size log old new t u result false is told at awaits runs now =
+    let more : 44 ≤ size_of t name = omega (arith, ltb-false _ _ is, at) in
+    let r = rw is at runs in
+    gate_stops name log old new u result (awaits_long name old t told more awaits) r now
+
+sized_stops : (name : List ℕ) (size : ℕ) (log : LogFile) (old new : Disk) (t u : Told) (result : Result LogFile (Halt Refusal)) → old.told ≡ Some t → size ≡ size_of t name → AwaitsBirth old name → Runs (sized_birth name size log) old new result → new.told ≡ Some u
+    → Stops name (drop 1 log.front) new u
+sized_stops name size log old new t u result told at awaits runs now =
+    ⊎_elim
+    (λ w. closing_stops name size log old new t u result (nat_lt size 44) refl told at awaits (subst (λ (d : Disk). Runs (closing name size log) d new result) (limit_ok size old w.0 w.1 w.2).0 w.3) now)
+    (λ w. awaits_stops name (drop 1 log.front) new u now (subst (λ (d : Disk). AwaitsBirth d name) (sym (limit_stops size old new w.0 w.1).0) awaits))
+    (taken_apart (within_limit size) (λ fits. closing name size log) old new result runs)
+
+pub birth_stops : (name : List ℕ) (asn : ℕ) (root : List ℕ) (old new : Disk) (u : Told) (result : Result LogFile (Halt Refusal)) → AwaitsBirth old name → Runs (birth_plan name asn root) old new result → new.told ≡ Some u
+    → Stops name (drop 1 (born asn root).front) new u
+unfolding birth_plan Runs followed_by
+birth_stops name asn root old new u result awaits (inl (same, is)) now = awaits_stops name (drop 1 (born asn root).front) new u now (subst (λ (d : Disk). AwaitsBirth d name) (sym same) awaits)
+birth_stops name asn root old new u result awaits (inr (mid, Err fault, acts, (same, is))) now =
+    awaits_stops name (drop 1 (born asn root).front) new u now (subst (λ (d : Disk). AwaitsBirth d name) (sym same) (awaits_kept name old mid (step_keeps name (Ask name) old mid (Err fault) tt acts) awaits))
+birth_stops name asn root old new u result awaits (inr (mid, Ok size, acts, goes)) now =
+    let t = awaits_told name old awaits in
+    let a = asked_size name size old mid t.0 t.1 acts in
+    sized_stops name (unwrap_or size 0) (born asn root) mid new a.now u result a.told a.size_is (awaits_kept name old mid (step_keeps name (Ask name) old mid (Ok size) tt acts) awaits) goes now
+
+-- However a birth ended, what a read gives after it loads as no log, or as one without entries.
+pub birth_read_leaves : (name : List ℕ) (asn : ℕ) (root : List ℕ) (old new : Disk) (u : Told) (result : Result LogFile (Halt Refusal)) → asn < 2 ^ 32 → length root ≡ digest_size → AwaitsBirth old name → Runs (birth_plan name asn root) old new result
+    → new.told ≡ Some u → IsUnbornOrBorn (born asn root) (bytes_of (u.holds name))
+birth_read_leaves name asn root old new u result small len awaits runs now =
+    let still = run_small name (birth_plan name asn root) old new result (birth_each name asn root len) (awaits_small name old awaits) runs in
+    let same : u ≡ still.now = some_told new.told still.now u still.told now in
+    let size : size_of u name ≤ most_log = subst (λ (t : Told). size_of t name ≤ most_log) (sym same) still.size in
+    loads_either asn root (bytes_of (u.holds name)) small len size (birth_stops name asn root old new u result awaits runs now).reads
+
 -- ---- after Ok
 
--- a file that isn't empty
+-- a file that isn't empty, within the limit
 pub record IsSome (d : Disk) (name : List ℕ) : Type 0 where
   pub now : Told
   pub told : d.told ≡ Some now
   pub some : 1 ≤ size_of now name
+  pub small : size_of now name ≤ most_log
 
-some_run : (name : List ℕ) (size : ℕ) (old new : Disk) (x : Unit {0}) (t : Told) (b : Bool) → nat_lt size 44 ≡ b → old.told ≡ Some t → size ≡ size_of t name → Runs (close_plan name size) old new (Ok x) → IsSome new name
+some_run : (name : List ℕ) (size : ℕ) (old new : Disk) (x : Unit {0}) (t : Told) (b : Bool) → nat_lt size 44 ≡ b → old.told ≡ Some t → size ≡ size_of t name → size ≤ most_log → Runs (close_plan name size) old new (Ok x) → IsSome new name
 unfolding close_plan Runs
-some_run name size old new tt t true is told at runs =
+some_run name size old new tt t true is told at small runs =
     let r = rw is at runs in
-    let room = closed_room name old new t told r in
-    record { now = room.rests.now; told = room.rests.told; some = subst (λ (f : List ℕ). 1 ≤ length f) (sym room.rests.bytes) room.some }
-some_run name size old new x t false is told at runs =
+    let rests = firm_rests Refusal name 0 (0 ∷ []) old new t told r in
+    let file = written 0 (0 ∷ []) (bytes_of (t.holds name)) in
+    let some : 1 ≤ length file = omega arith in
+    let less : length file ≤ most_log = omega (arith, ltb-true _ _ is, at, written_size 0 (0 ∷ []) (bytes_of (t.holds name))) in
+    record {
+      now = rests.now;
+      told = rests.told;
+      some = subst (λ (f : List ℕ). 1 ≤ length f) (sym rests.bytes) some;
+      small = subst (λ (f : List ℕ). length f ≤ most_log) (sym rests.bytes) less;
+    }
+some_run name size old new x t false is told at small runs =
     let r = rw is at runs in
-    record { now = t; told = ap (λ (d : Disk). d.told) r.0 ∙ told; some = omega (arith, ltb-false _ _ is, at) }
+    record { now = t; told = ap (λ (d : Disk). d.told) r.0 ∙ told; some = omega (arith, ltb-false _ _ is, at); small = omega (arith, at, small) }
 
-born_holds : (name : List ℕ) (asn : ℕ) (root : List ℕ) (value : LogFile) (old new : Disk) (x : Unit {0}) (mid : Disk) → asn < 2 ^ 32 → length root ≡ digest_size → IsSome old name → Runs (gate_plan name 1 (drop 1 (born asn root).front)) old mid (Ok x)
-    → (new ≡ mid) × (value ≡ born asn root) → (value ≡ born asn root) × Holds new name (born asn root)
-born_holds name asn root value old new tt mid small size some runs done =
+born_keeps : (name : List ℕ) (asn : ℕ) (root : List ℕ) (value : LogFile) (old new : Disk) (x : Unit {0}) (mid : Disk) → asn < 2 ^ 32 → length root ≡ digest_size → IsSome old name → Runs (gate_plan name 1 (drop 1 (born asn root).front)) old mid (Ok x)
+    → (new ≡ mid) × (value ≡ born asn root) → (value ≡ born asn root) × Keeps new name (born asn root)
+born_keeps name asn root value old new tt mid small size some runs done =
     let body = drop 1 (born asn root).front in
     let before = bytes_of (some.now.holds name) in
-    let file = opened_after 1 body before in (
+    let file = opened_after 1 body before in
+    let body_len : length body ≤ 43 = omega (arith, length-drop 1 (born asn root).front, born_length asn root size) in
+    let len : length file ≤ most_log = opened_size 1 body before most_log (omega arith) (omega (arith, body_len)) some.small in (
       done.1,
       record {
         file = file;
         rests = subst (λ (d : Disk). Rests d name file) (sym done.0) (gate_ok name 1 body old mid some.now some.told runs);
         is_log = record { batches = []; gate = 0; closed = refl; fit = tt; asn = small; root = size; entries = refl; front = refl };
-        holds = born_in asn root before (born asn root).front small size some.some refl;
+        loads = loads_as file (Some (born asn root)) len (born_in asn root before (born asn root).front small size some.some refl);
       },
     )
 
-closing_ok : (name : List ℕ) (asn : ℕ) (root : List ℕ) (size : ℕ) (value : LogFile) (old new : Disk) (t : Told) → asn < 2 ^ 32 → length root ≡ digest_size → old.told ≡ Some t → size ≡ size_of t name
-    → Runs (closing name size (born asn root)) old new (Ok value) → (value ≡ born asn root) × Holds new name (born asn root)
-closing_ok name asn root size value old new t small len told at runs =
+closing_ok : (name : List ℕ) (asn : ℕ) (root : List ℕ) (size : ℕ) (value : LogFile) (old new : Disk) (t : Told) → asn < 2 ^ 32 → length root ≡ digest_size → old.told ≡ Some t → size ≡ size_of t name → size ≤ most_log
+    → Runs (closing name size (born asn root)) old new (Ok value) → (value ≡ born asn root) × Keeps new name (born asn root)
+closing_ok name asn root size value old new t small len told at fits runs =
     let log = born asn root in
     ⊎_elim
     (λ w.
-    let some = some_run name size old w.0 w.1 t (nat_lt size 44) refl told at w.2 in
-    ⊎_elim (λ g. born_holds name asn root value w.0 new g.1 g.0 small len some g.2 (done_value log g.0 new value g.3)) (λ g. absurd (let h = g.2 in cc)) (taken_apart (gate_plan name 1 (drop 1 log.front)) (λ opened. Done log) w.0 new (Ok value) w.3))
+    let some = some_run name size old w.0 w.1 t (nat_lt size 44) refl told at fits w.2 in
+    ⊎_elim (λ g. born_keeps name asn root value w.0 new g.1 g.0 small len some g.2 (done_value log g.0 new value g.3)) (λ g. absurd (let h = g.2 in cc)) (taken_apart (gate_plan name 1 (drop 1 log.front)) (λ opened. Done log) w.0 new (Ok value) w.3))
     (λ w. absurd (let h = w.2 in cc))
     (taken_apart (close_plan name size) (λ closed. gate_plan name 1 (drop 1 log.front) >>= (λ opened. Done log)) old new (Ok value) runs)
 
 sized_ok : (name : List ℕ) (asn : ℕ) (root : List ℕ) (size : ℕ) (value : LogFile) (old new : Disk) (t : Told) → asn < 2 ^ 32 → length root ≡ digest_size → old.told ≡ Some t → size ≡ size_of t name
-    → Runs (sized_birth name size (born asn root)) old new (Ok value) → (value ≡ born asn root) × Holds new name (born asn root)
+    → Runs (sized_birth name size (born asn root)) old new (Ok value) → (value ≡ born asn root) × Keeps new name (born asn root)
 sized_ok name asn root size value old new t small len told at runs =
     let log = born asn root in
-    ⊎_elim (λ w. closing_ok name asn root size value old new t small len told at (subst (λ (d : Disk). Runs (closing name size log) d new (Ok value)) (limit_ok size old w.0 w.1 w.2).0 w.3)) (λ w. absurd (let h = w.2 in cc))
+    ⊎_elim
+    (λ w.
+    let fits = limit_ok size old w.0 w.1 w.2 in
+    closing_ok name asn root size value old new t small len told at fits.1 (subst (λ (d : Disk). Runs (closing name size log) d new (Ok value)) fits.0 w.3))
+    (λ w. absurd (let h = w.2 in cc))
     (taken_apart (within_limit size) (λ fits. closing name size log) old new (Ok value) runs)
 
 -- After Ok the file rests with a log without entries.
 pub birth_keeps : (name : List ℕ) (asn : ℕ) (root : List ℕ) (value : LogFile) (old new : Disk) (t : Told) → asn < 2 ^ 32 → length root ≡ digest_size → old.told ≡ Some t → Runs (birth_plan name asn root) old new (Ok value)
-    → (value ≡ born asn root) × Holds new name (born asn root)
+    → (value ≡ born asn root) × Keeps new name (born asn root)
 unfolding birth_plan Runs followed_by
 birth_keeps name asn root value old new t small len told (inl (same, is)) = absurd cc
 birth_keeps name asn root value old new t small len told (inr (mid, Err fault, acts, (same, is))) = absurd cc
 birth_keeps name asn root value old new t small len told (inr (mid, Ok size, acts, goes)) = let a = asked_size name size old mid t told acts in sized_ok name asn root (unwrap_or size 0) value mid new a.now small len a.told a.size_is goes
+
+-- ---- refusals
+
+close_never : (name : List ℕ) (size : ℕ) → Never (close_plan name size)
+unfolding close_plan
+close_never name size = by_size (nat_lt size 44) refl
+  where
+    by_size : (b : Bool) → nat_lt size 44 ≡ b → Never (close_plan name size)
+    by_size true is = rw is (firm_never name 0 (0 ∷ []))
+    by_size false is = rw is tt
+
+closing_never : (name : List ℕ) (size : ℕ) (log : LogFile) → Never (closing name size log)
+closing_never name size log =
+    let gate = gate_plan name 1 (drop 1 log.front) in
+    never_followed (close_plan name size) (λ closed. gate >>= (λ opened. Done log)) (close_never name size) (λ closed. never_followed gate (λ opened. Done log) (gate_never name 1 (drop 1 log.front)) (λ opened. tt))
+
+-- A birth that a load made way for is never refused.
+pub birth_unrefused : (name : List ℕ) (asn : ℕ) (root : List ℕ) (old new : Disk) (r : Refusal) → AwaitsBirth old name → Runs (birth_plan name asn root) old new (Err (Refused r)) → ⊥
+unfolding birth_plan Runs followed_by
+birth_unrefused name asn root old new r awaits (inl (same, is)) = cc
+birth_unrefused name asn root old new r awaits (inr (mid, Err fault, acts, (same, is))) = cc
+birth_unrefused name asn root old new r awaits (inr (mid, Ok size, acts, goes)) =
+    let small = awaits_small name mid (awaits_kept name old mid (step_keeps name (Ask name) old mid (Ok size) tt acts) awaits) in
+    let t = awaits_told name old awaits in
+    let a = asked_size name size old mid t.0 t.1 acts in
+    let same : a.now ≡ small.now = some_told mid.told small.now a.now small.told a.told in
+    let stops = limit_refuses (unwrap_or size 0) (closing name (unwrap_or size 0) (born asn root)) mid new r (closing_never name (unwrap_or size 0) (born asn root)) goes in
+    let now_size : size_of a.now name ≡ size_of small.now name = ap (λ (t : Told). size_of t name) same in
+    omega (arith, stops.2, a.size_is, now_size, small.size)

@@ -1,17 +1,21 @@
 -- The images that a crash may leave at each of the two writes of an append.
-use Rattle.std.proofs.Common.{◌≡◌, inl, inr, ℕ, ◌+◌, ◌-◌, ◌≤◌, Bool, true, false, List, [], ◌∷◌, ◌++◌, length, get_or, take, drop, Some, Ok, refl, sym, ap, subst, ◌∙◌, append_assoc, arith}
+use Rattle.std.proofs.Common.{◌≡◌, inl, inr, ℕ, ◌+◌, ◌-◌, ◌≤◌, Bool, true, false, List, [], ◌∷◌, ◌++◌, length, get_or, take, drop, Some, Ok, refl, sym, ap, subst, ◌∙◌, append_assoc, arith, ◌⊎◌}
 use Rattle.std.proofs.lemmas.Bool.{eqb-true}
 use Rattle.std.proofs.lemmas.List.{take_at, take-append-drop, length-append, drop_more}
 use Rattle.std.proofs.Math.Seq.{drop-append-add}
 use Rattle.nr_spec_plans.specs.Disk.{written, TornWrite}
 use Rattle.nr_spec_log.specs.Chain.{LogEntry}
 use Rattle.nr_spec_log.specs.Answer.{last_time}
-use Rattle.nr_spec_store.specs.LogFile.{LogFile, IsLog, log_of, batch, is_open}
-use Rattle.nr_spec_store.specs.StoreCrashes.{IsBeforeOrAfter}
+use Rattle.nr_spec_store.specs.LogFile.{LogFile, IsLog, log_of, batch, is_open, with_batch}
+use Rattle.nr_spec_store.specs.StoreCrashes.{HoldsEntries}
 use Rattle.nr_laws_store.proofs.LogLaws.{IsGated, Follows, front_of, gated, open_gate, closed_gate, front_decides}
 
+-- the log with the entries before, or with the whole batch
+abbrev pub IsEither : LogFile → List LogEntry → List ℕ → Type 0
+IsEither log es file = HoldsEntries file log log.entries ⊎ (log_of file ≡ Ok (Some (with_batch log es)))
+
 -- After the front an image may hold any bytes.
-pub torn_after : (log : LogFile) (es : List LogEntry) (n : ℕ) (file image : List ℕ) → IsLog log → log_of file ≡ Ok (Some log) → TornWrite (length log.front) n file image → IsBeforeOrAfter log es image
+pub torn_after : (log : LogFile) (es : List LogEntry) (n : ℕ) (file image : List ℕ) → IsLog log → log_of file ≡ Ok (Some log) → TornWrite (length log.front) n file image → IsEither log es image
 torn_after log es n file image is e torn =
     let f = front_of file log e in
     let size = length log.front in
@@ -21,7 +25,7 @@ torn_after log es n file image is e torn =
 
 -- either of the two gates
 gate_cases : (log : LogFile) (es : List LogEntry) (image before : List ℕ) (gate : ℕ) (rest : List ℕ) (b : Bool) → is_open gate ≡ b → IsGated log before → Follows (last_time 0 log.entries) es
-    → image ≡ before ++ gate ∷ (batch es ++ 0 ∷ rest) → IsBeforeOrAfter log es image
+    → image ≡ before ++ gate ∷ (batch es ++ 0 ∷ rest) → IsEither log es image
 gate_cases log es image before gate rest true opens g more whole =
     inr (ap log_of (whole ∙ ap (λ (x : ℕ). before ++ x ∷ (batch es ++ 0 ∷ rest)) (eqb-true _ _ opens)) ∙ open_gate log before es rest g more)
 gate_cases log es image before gate rest false closed g more whole =
@@ -29,7 +33,7 @@ gate_cases log es image before gate rest false closed g more whole =
 
 -- The gate may hold any byte.
 pub torn_gate : (log : LogFile) (es : List LogEntry) (file image : List ℕ) → IsLog log → Follows (last_time 0 log.entries) es → log_of file ≡ Ok (Some log)
-    → TornWrite (length log.front - 1) 1 (written (length log.front) (batch es ++ 0 ∷ []) file) image → IsBeforeOrAfter log es image
+    → TornWrite (length log.front - 1) 1 (written (length log.front) (batch es ++ 0 ∷ []) file) image → IsEither log es image
 torn_gate log es file image is more e torn =
     let f = front_of file log e in
     let g = gated log is in

@@ -1,25 +1,27 @@
 -- Crashes of an append.
-use Rattle.std.proofs.Common.{◌≡◌, ℕ, ◌-◌, ◌<◌, ◌≤◌, Bool, true, false, List, [], ◌∷◌, ◌++◌, length, Some, Result, Ok, Err, refl, sym, ap, subst, ◌∙◌, inl, inr, ◌⊎◌, ⊎_elim, arith}
+use Rattle.std.proofs.Common.{◌≡◌, ℕ, ◌+◌, ◌-◌, ◌<◌, ◌≤◌, Bool, true, false, List, [], ◌∷◌, ◌++◌, length, Some, Result, Ok, Err, refl, sym, ap, subst, ◌∙◌, inl, inr, ◌⊎◌, ⊎_elim, arith}
 use Rattle.std.specs.Prelude.{nat_lt}
 use Rattle.std.proofs.lemmas.Bool.{ltb-true, ltb-false}
 use Rattle.std.proofs.lemmas.List.{length-append}
 use Rattle.nr_spec_plans.specs.Disk.{Disk, Moment, Told, ReadFault, Memory, Fault, bytes_of, size_of, written, TornWrite}
-use Rattle.nr_spec_plans.specs.Plans.{Acts, Write, Sync, Done, Halt, Refused, Faulted, Runs, followed_by, want, ◌>>=◌}
+use Rattle.nr_spec_plans.specs.Plans.{Act, Acts, Answer, Write, Sync, Done, Refuse, Room, Halt, Refused, Faulted, Runs, followed_by, want, ◌>>=◌}
 use Rattle.nr_spec_plans.proofs.PlanLaws.{taken_apart}
 use Rattle.nr_spec_crash.specs.Images.{IsImage}
 use Rattle.nr_spec_crash.specs.Crashes.{MayLeave, Sometime, Crashes, Rests, Now, IsSound}
 use Rattle.nr_spec_crash.specs.Firm.{firm}
 use Rattle.nr_laws_crash.proofs.CrashLaws.{crash_sequence, crash_after, done_crash}
 use Rattle.nr_laws_crash.proofs.ImageLaws.{written_torn}
-use Rattle.nr_laws_crash.proofs.FirmLaws.{some_told, firm_crash, firm_ok, firm_rests, rests_image}
+use Rattle.nr_laws_crash.proofs.FirmLaws.{some_told, firm_crash, firm_ok, firm_rests, rests_image, written_size}
 use Rattle.nr_laws_crash.proofs.SoundLaws.{read_is_image}
 use Rattle.nr_spec_log.specs.Chain.{LogEntry}
 use Rattle.nr_spec_log.specs.Answer.{last_time}
 use Rattle.nr_spec_store.specs.LogFile.{LogFile, IsLog, MayFollow, log_of, most_log, batch, with_batch}
-use Rattle.nr_spec_store.specs.StorePlans.{Refusal, Limit, Work, within_limit, gate_plan, append_plan}
-use Rattle.nr_spec_store.specs.StoreCrashes.{IsBeforeOrAfter, Holds, Reads}
+use Rattle.nr_spec_store.specs.StorePlans.{Refusal, Limit, Work, within_limit, loading, gate_plan, append_plan}
+use Rattle.nr_spec_store.specs.StoreCrashes.{IsBeforeOrAfter, Keeps, Holds}
 use Rattle.nr_laws_store.proofs.LogLaws.{Follows, front_of, gated, more_log}
-use Rattle.nr_laws_store.proofs.GateImages.{torn_after, torn_gate}
+use Rattle.nr_laws_store.proofs.GateImages.{IsEither, torn_after, torn_gate}
+use Rattle.nr_laws_store.proofs.Loads.{loads_as, read_as, small_as}
+use Rattle.nr_laws_store.proofs.Lengths.{append_each, body_size, crash_length, rests_within}
 use Rattle.nr_laws_store.proofs.Grown.{opened_after, appends, grows}
 
 -- ---- a body, and the gate before it
@@ -101,18 +103,17 @@ done_value v old new value (same, is) = (same, let e : value ≡ v = cc in e)
 pub follows_within : (log : LogFile) (es : List LogEntry) → IsLog log → MayFollow (last_time 0 log.entries) es → length (with_batch log es).front ≤ most_log → Follows (last_time 0 log.entries) es
 follows_within log es is more within = let g = grows log es is in record { fit = more.fit; some = more.some; size = omega (arith, g.size, within) }
 
-images_of_append : (log : LogFile) (es : List LogEntry) (file image : List ℕ) → IsLog log → Follows (last_time 0 log.entries) es → log_of file ≡ Ok (Some log) → AreImages (length log.front) (body_of es) file image → IsBeforeOrAfter log es image
+images_of_append : (log : LogFile) (es : List LogEntry) (file image : List ℕ) → IsLog log → Follows (last_time 0 log.entries) es → log_of file ≡ Ok (Some log) → AreImages (length log.front) (body_of es) file image → IsEither log es image
 images_of_append log es file image is more e (inl torn) = torn_after log es (length (body_of es)) file image is e torn
 images_of_append log es file image is more e (inr torn) = torn_gate log es file image is more e torn
 
-before : (log : LogFile) (es : List LogEntry) (file image : List ℕ) → log_of file ≡ Ok (Some log) → image ≡ file → IsBeforeOrAfter log es image
+before : (log : LogFile) (es : List LogEntry) (file image : List ℕ) → log_of file ≡ Ok (Some log) → image ≡ file → IsEither log es image
 before log es file image e same = inl (record { front = log.front; holds = ap log_of same ∙ e })
 
--- A crash at any moment of an append leaves the entries before it, or those with the whole batch.
-pub append_leaves : (name : List ℕ) (log : LogFile) (es : List LogEntry) (file image : List ℕ) (old : Disk) → Rests old name file → IsLog log → log_of file ≡ Ok (Some log) → MayFollow (last_time 0 log.entries) es
-    → Crashes (append_plan name log es) old name image → IsBeforeOrAfter log es image
+append_either : (name : List ℕ) (log : LogFile) (es : List LogEntry) (file image : List ℕ) (old : Disk) → Rests old name file → IsLog log → log_of file ≡ Ok (Some log) → MayFollow (last_time 0 log.entries) es
+    → Crashes (append_plan name log es) old name image → IsEither log es image
 unfolding append_plan
-append_leaves name log es file image old rests is e more crash =
+append_either name log es file image old rests is e more crash =
     let Q : Moment → Type 0 = λ m. IsImage m name image in
     let size = length (with_batch log es).front in
     ⊎_elim (λ first. before log es file image e (rests_image old name file image rests (limit_crash size old Q first)))
@@ -125,56 +126,76 @@ append_leaves name log es file image old rests is e more crash =
     images_of_append log es file image is (follows_within log es is more fits.1) e (gate_crash name (length log.front) (body_of es) file image old rests (omega (arith, (gated log is).1.size_is)) room gates))
     (crash_sequence (within_limit size) (λ fits. fitted name log es) old Q (want_crash (λ room. spelled_first name log es) old Q crash))
 
-gate_then : (name : List ℕ) (log : LogFile) (es : List LogEntry) (value : LogFile) (old new : Disk) → Reads old name log → Follows (last_time 0 log.entries) es → (mid : Disk) (x : Unit {0}) → Runs (gate_plan name (length log.front) (body_of es)) old mid (Ok x)
-    → (new ≡ mid) × (value ≡ with_batch log es) → (value ≡ with_batch log es) × Holds new name (with_batch log es)
-gate_then name log es value old new reads follows mid tt runs done =
-    let file = bytes_of (reads.now.holds name) in
-    let rests = gate_ok name (length log.front) (body_of es) old mid reads.now reads.told runs in (
+-- within the limit it loads so
+loads_either : (log : LogFile) (es : List LogEntry) (image : List ℕ) → length image ≤ most_log → IsEither log es image → IsBeforeOrAfter log es image
+loads_either log es image small (inl before) = inl (record { front = before.front; loads = loads_as image _ small before.holds })
+loads_either log es image small (inr after) = inr (loads_as image _ small after)
+
+-- A crash at any moment of an append leaves what loads as the entries before it, or as those with the whole batch.
+pub append_leaves : (name : List ℕ) (log : LogFile) (es : List LogEntry) (image : List ℕ) (old : Disk) → Keeps old name log → MayFollow (last_time 0 log.entries) es → Crashes (append_plan name log es) old name image → IsBeforeOrAfter log es image
+append_leaves name log es image old keeps more crash =
+    let small = rests_within name keeps.file most_log old keeps.rests (small_as keeps.file (Some log) keeps.loads) in
+    loads_either log es image (crash_length name image (append_plan name log es) old (append_each name log es keeps.is_log) small crash)
+    (append_either name log es keeps.file image old keeps.rests keeps.is_log (read_as keeps.file (Some log) keeps.loads) more crash)
+
+-- ---- after Ok
+
+-- how long what is written gets
+pub opened_size : (end : ℕ) (body file : List ℕ) (most : ℕ) → 1 ≤ end → end + length body ≤ most → length file ≤ most → length (opened_after end body file) ≤ most
+opened_size end body file most gate small size =
+    omega (arith, gate, small, size, written_size end body file, written_size (end - 1) (1 ∷ []) (written end body file))
+
+gate_then : (name : List ℕ) (log : LogFile) (es : List LogEntry) (value : LogFile) (old new : Disk) → Holds old name log → Follows (last_time 0 log.entries) es → length (with_batch log es).front ≤ most_log → (mid : Disk) (x : Unit {0})
+    → Runs (gate_plan name (length log.front) (body_of es)) old mid (Ok x) → (new ≡ mid) × (value ≡ with_batch log es) → (value ≡ with_batch log es) × Keeps new name (with_batch log es)
+gate_then name log es value old new holds follows small mid tt runs done =
+    let file = bytes_of (holds.now.holds name) in
+    let rests = gate_ok name (length log.front) (body_of es) old mid holds.now holds.told runs in
+    let size = opened_size (length log.front) (body_of es) file most_log (omega (arith, (gated log holds.is_log).1.size_is)) (omega (arith, body_size log es holds.is_log, small)) (small_as file (Some log) holds.loads) in (
       done.1,
       record {
         file = opened_after (length log.front) (body_of es) file;
         rests = subst (λ (d : Disk). Rests d name (opened_after (length log.front) (body_of es) file)) (sym done.0) rests;
-        is_log = more_log log es reads.is_log follows;
-        holds = (appends log es file reads.is_log follows reads.holds).appended;
+        is_log = more_log log es holds.is_log follows;
+        loads = loads_as _ _ size (appends log es file holds.is_log follows (read_as file (Some log) holds.loads)).appended;
       },
     )
 
 -- After Ok the file rests with the log that has the batch.
-pub append_keeps : (name : List ℕ) (log : LogFile) (es : List LogEntry) (value : LogFile) (old new : Disk) → Reads old name log → MayFollow (last_time 0 log.entries) es → Runs (append_plan name log es) old new (Ok value)
-    → (value ≡ with_batch log es) × Holds new name (with_batch log es)
+pub append_keeps : (name : List ℕ) (log : LogFile) (es : List LogEntry) (value : LogFile) (old new : Disk) → Holds old name log → MayFollow (last_time 0 log.entries) es → Runs (append_plan name log es) old new (Ok value)
+    → (value ≡ with_batch log es) × Keeps new name (with_batch log es)
 unfolding append_plan
-append_keeps name log es value old new reads more runs =
+append_keeps name log es value old new holds more runs =
     let size = length (with_batch log es).front in
     ⊎_elim
     (λ w.
     let fits = limit_ok size old w.0 w.1 w.2 in
     let rest = subst (λ (d : Disk). Runs (fitted name log es) d new (Ok value)) fits.0 w.3 in
     let gates = want_ok (λ room. gate_plan name (length log.front) (body_of es) >>= (λ opened. Done (with_batch log es))) old new value rest in
-    let follows = follows_within log es reads.is_log more fits.1 in
-    ⊎_elim (λ g. gate_then name log es value old new reads follows g.0 g.1 g.2 (done_value (with_batch log es) g.0 new value g.3)) (λ g. absurd (let h = g.2 in cc))
+    let follows = follows_within log es holds.is_log more fits.1 in
+    ⊎_elim (λ g. gate_then name log es value old new holds follows fits.1 g.0 g.1 g.2 (done_value (with_batch log es) g.0 new value g.3)) (λ g. absurd (let h = g.2 in cc))
     (taken_apart (gate_plan name (length log.front) (body_of es)) (λ opened. Done (with_batch log es)) old new (Ok value) gates))
     (λ w. absurd (let h = w.2 in cc))
     (taken_apart (within_limit size) (λ fits. fitted name log es) old new (Ok value) (want_ok (λ room. spelled_first name log es) old new value runs))
 
-pub holds_reads : (d : Disk) (name : List ℕ) (log : LogFile) → Holds d name log → Reads d name log
-holds_reads d name log h = record { now = h.rests.now; told = h.rests.told; is_log = h.is_log; holds = ap log_of h.rests.bytes ∙ h.holds }
+pub keeps_holds : (d : Disk) (name : List ℕ) (log : LogFile) → Keeps d name log → Holds d name log
+keeps_holds d name log k = record { now = k.rests.now; told = k.rests.told; is_log = k.is_log; loads = ap loading k.rests.bytes ∙ k.loads }
 
 -- However an append ended, a crash after it leaves the entries before it, or those with the whole batch.
-pub stop_leaves : (name : List ℕ) (log : LogFile) (es : List LogEntry) (image : List ℕ) (old new : Disk) (result : Result LogFile (Halt Refusal)) → Holds old name log → MayFollow (last_time 0 log.entries) es
+pub stop_leaves : (name : List ℕ) (log : LogFile) (es : List LogEntry) (image : List ℕ) (old new : Disk) (result : Result LogFile (Halt Refusal)) → Keeps old name log → MayFollow (last_time 0 log.entries) es
     → Runs (append_plan name log es) old new result → MayLeave new name image → IsBeforeOrAfter log es image
-stop_leaves name log es image old new result holds more runs left =
-    append_leaves name log es holds.file image old holds.rests holds.is_log holds.holds more (crash_after (append_plan name log es) old new result (λ m. IsImage m name image) runs left)
+stop_leaves name log es image old new result keeps more runs left =
+    append_leaves name log es image old keeps more (crash_after (append_plan name log es) old new result (λ m. IsImage m name image) runs left)
 
 -- and what a read gives is such an image
-pub read_leaves : (name : List ℕ) (log : LogFile) (es : List LogEntry) (old new : Disk) (u : Told) (result : Result LogFile (Halt Refusal)) → Holds old name log → MayFollow (last_time 0 log.entries) es
+pub read_leaves : (name : List ℕ) (log : LogFile) (es : List LogEntry) (old new : Disk) (u : Told) (result : Result LogFile (Halt Refusal)) → Keeps old name log → MayFollow (last_time 0 log.entries) es
     → Runs (append_plan name log es) old new result → new.told ≡ Some u → IsBeforeOrAfter log es (bytes_of (u.holds name))
-read_leaves name log es old new u result holds more runs told =
-    let r = holds.rests in
-    let size : size_of r.now name ≡ length holds.file = ap length r.bytes in
+read_leaves name log es old new u result keeps more runs told =
+    let r = keeps.rests in
+    let size : size_of r.now name ≡ length keeps.file = ap length r.bytes in
     let sound : IsSound name old = record { now = r.now; told = r.told; least = rw (r.loose) (omega (arith, size)); greatest = rw (r.loose) (omega (arith, size)) } in
     let image = read_is_image name (append_plan name log es) old new result sound runs in
     let same : u ≡ image.0 = some_told new.told image.0 u image.1 told in
-    subst (λ (v : Told). IsBeforeOrAfter log es (bytes_of (v.holds name))) (sym same) (stop_leaves name log es (bytes_of (image.0.holds name)) old new result holds more runs image.2)
+    subst (λ (v : Told). IsBeforeOrAfter log es (bytes_of (v.holds name))) (sym same) (stop_leaves name log es (bytes_of (image.0.holds name)) old new result keeps more runs image.2)
 
 -- ---- causes
 
@@ -229,3 +250,61 @@ pub append_writes : (name : List ℕ) (log : LogFile) (es : List LogEntry) (old 
 unfolding append_plan
 append_writes name log es old new result runs e =
     ⊎_elim (λ memory. absurd (let h : Err (Faulted Memory) ≡ Err (Faulted ReadFault) = sym memory ∙ e in cc)) (λ rest. sized_writes name log es old new result rest e) (want_writes (λ room. spelled_first name log es) old new result runs)
+
+-- ---- refusals
+
+-- The plan is never refused.
+abbrev pub Never : {A : Type 0} → Work A → Type 0
+Never (Done value) = Unit {0}
+Never (Refuse refusal) = ⊥
+Never (Room next) = Never next
+Never (Act action next) = (answer : Answer action) → Never (next answer)
+
+pub never_refused : {A : Type 0} (p : Work A) (old new : Disk) (r : Refusal) → Never p → Runs p old new (Err (Refused r)) → ⊥
+unfolding Runs
+never_refused (Done value) old new r never (same, is) = cc
+never_refused (Refuse refusal) old new r never runs = never
+never_refused (Room next) old new r never (inl (same, is)) = cc
+never_refused (Room next) old new r never (inr runs) = never_refused next old new r never runs
+never_refused (Act action next) old new r never (mid, Ok answer, acts, goes) = never_refused (next answer) mid new r (never answer) goes
+never_refused (Act action next) old new r never (mid, Err fault, acts, (same, is)) = cc
+
+pub never_followed : {A B : Type 0} (p : Work A) (f : A → Work B) → Never p → ((value : A) → Never (f value)) → Never (followed_by p f)
+unfolding followed_by
+never_followed (Done value) f never then = then value
+never_followed (Refuse refusal) f never then = absurd never
+never_followed (Room next) f never then = never_followed next f never then
+never_followed (Act action next) f never then = λ answer. never_followed (next answer) f (never answer) then
+
+pub firm_never : (name : List ℕ) (at : ℕ) (from : List ℕ) → Never (firm name at from)
+unfolding firm followed_by
+firm_never name at from = λ wrote. λ synced. tt
+
+pub gate_never : (name : List ℕ) (end : ℕ) (body : List ℕ) → Never (gate_plan name end body)
+unfolding gate_plan
+gate_never name end body = never_followed (firm name end body) (λ put. firm name (end - 1) (1 ∷ [])) (firm_never name end body) (λ put. firm_never name (end - 1) (1 ∷ []))
+
+-- what is refused of a plan that asks for the limit and is never refused after it
+pub limit_refuses : {B : Type 0} (size : ℕ) (p : Work B) (old new : Disk) (r : Refusal) → Never p → Runs (within_limit size >>= (λ fits. p)) old new (Err (Refused r)) → (new ≡ old) × (r ≡ Limit size) × (most_log < size)
+limit_refuses size p old new r never runs =
+    ⊎_elim
+    (λ w. absurd (never_refused p w.0 new r never w.3))
+    (λ w.
+    let stops = limit_stops size old new w.0 w.1 in
+    let same : r ≡ Limit size = let e : Err (Refused r) ≡ Err (Refused (Limit size)) = w.2 ∙ ap (λ (h : Halt Refusal). Err h) stops.1 in cc in
+    (stops.0, same, stops.2))
+    (taken_apart (within_limit size) (λ fits. p) old new (Err (Refused r)) runs)
+
+fitted_never : (name : List ℕ) (log : LogFile) (es : List LogEntry) → Never (fitted name log es)
+unfolding followed_by
+fitted_never name log es = never_followed (gate_plan name (length log.front) (body_of es)) (λ opened. Done (with_batch log es)) (gate_never name (length log.front) (body_of es)) (λ opened. tt)
+
+-- An append is refused past the limit alone, and then changes nothing.
+pub append_refused : (name : List ℕ) (log : LogFile) (es : List LogEntry) (old new : Disk) (r : Refusal) → Runs (append_plan name log es) old new (Err (Refused r))
+    → (new ≡ old) × (r ≡ Limit (length (with_batch log es).front)) × (most_log < length (with_batch log es).front)
+unfolding append_plan
+append_refused name log es old new r runs =
+    ⊎_elim
+    (λ memory. absurd (let h : Err (Refused r) ≡ Err (Faulted Memory) = memory in cc))
+    (λ rest. limit_refuses (length (with_batch log es).front) (fitted name log es) old new r (fitted_never name log es) rest)
+    (want_writes (λ room. spelled_first name log es) old new (Err (Refused r)) runs)

@@ -2,6 +2,8 @@ pub mod BatchLaws
 pub mod LogLaws
 pub mod GateImages
 pub mod Grown
+pub mod Loads
+pub mod Lengths
 pub mod GateLaws
 pub mod BirthLaws
 pub mod LoadLaws

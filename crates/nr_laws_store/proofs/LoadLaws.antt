@@ -1,21 +1,22 @@
 -- What a load gives, and what a crash leaves after it.
-use Rattle.std.proofs.Common.{◌≡◌, ℕ, ◌<◌, ◌≤◌, Bool, true, false, List, length, take, Option, None, Some, Result, Ok, Err, refl, sym, ap, subst, ◌∙◌, inl, inr, ⊎_elim, arith}
+use Rattle.std.proofs.Common.{◌≡◌, ℕ, ◌<◌, ◌≤◌, Bool, true, false, List, [], length, take, Option, None, Some, Result, Ok, Err, refl, sym, ap, subst, ◌∙◌, inl, inr, ⊎_elim, arith}
 use Rattle.std.specs.Prelude.{option_map, nat_lt}
-use Rattle.std.proofs.lemmas.Bool.{lt-ltb, le-ltb}
 use Rattle.std.proofs.lemmas.List.{take_all}
-use Rattle.nr_spec_plans.specs.Disk.{Disk, Told, Fault, bytes_of, size_of}
+use Rattle.nr_spec_plans.specs.Disk.{Disk, Told, Fault, ReadFault, WriteFault, Memory, Leaves, IsSynced, bytes_of, settled, size_of, ticking}
 use Rattle.nr_spec_plans.specs.Plans.{Halt, Refused, Faulted, Runs, followed_by, act, Ask, Sync, Read, ◌>>=◌}
-use Rattle.nr_spec_plans.specs.Laws.{Kept, Gives}
+use Rattle.nr_spec_plans.specs.Laws.{Each, Kept, Gives}
 use Rattle.nr_spec_plans.proofs.PlanLaws.{taken_apart, step_keeps}
-use Rattle.nr_spec_crash.specs.Crashes.{Rests, IsWithin}
-use Rattle.nr_laws_crash.proofs.CrashLaws.{was_told, field_kept}
-use Rattle.nr_laws_crash.proofs.FirmLaws.{rests_kept, within_kept}
-use Rattle.nr_spec_store.specs.LogFile.{LogFile, log_of, most_log}
+use Rattle.nr_spec_crash.specs.Images.{IsImage}
+use Rattle.nr_spec_crash.specs.Crashes.{Crashes, Rests, IsWithin}
+use Rattle.nr_spec_crash.specs.Firm.{firm}
+use Rattle.nr_laws_crash.proofs.CrashLaws.{KeepsBy, sometime_kept, was_told, field_kept}
+use Rattle.nr_laws_crash.proofs.FirmLaws.{firm_keeps_within, rests_image, rests_kept, within_kept}
+use Rattle.nr_spec_store.specs.LogFile.{LogFile, IsLog, log_of, most_log}
 use Rattle.nr_spec_store.specs.StorePlans.{Refusal, Limit, Work, within_limit, understood, found_plan, load_plan, loading, refused_at}
-use Rattle.nr_spec_store.specs.StoreCrashes.{AwaitsBirth, Holds}
-use Rattle.nr_spec_wire.specs.Reading.{IsBytes}
-use Rattle.nr_laws_store.proofs.LogLaws.{log_takes}
+use Rattle.nr_spec_store.specs.StoreCrashes.{AwaitsBirth, Keeps}
+use Rattle.nr_laws_store.proofs.Loads.{loading_within, loading_past}
 use Rattle.nr_laws_store.proofs.GateLaws.{limit_ok, limit_stops}
+use Rattle.nr_laws_store.proofs.BirthLaws.{awaits_kept, awaits_loads}
 
 -- How a load ended, of a file of these bytes: what it gave, and, where it read the file, that this rests.
 pub record Loads (name file : List ℕ) (new : Disk) (result : Result (Option LogFile) (Halt Refusal)) : Type 0 where
@@ -23,12 +24,6 @@ pub record Loads (name file : List ℕ) (new : Disk) (result : Result (Option Lo
   pub rests : (given : Option LogFile) → result ≡ Ok given → Rests new name file
 
 -- ---- once the file was read
-
-loading_within : (file : List ℕ) → length file ≤ most_log → loading file ≡ refused_at (log_of file)
-loading_within file within = let h = le-ltb most_log (length file) within in rw h refl
-
-loading_past : (file : List ℕ) → most_log < length file → loading file ≡ Err (Limit (length file))
-loading_past file past = let h = lt-ltb most_log (length file) past in rw h refl
 
 understood_gives : (read : Result (Option LogFile) ℕ) (old new : Disk) (result : Result (Option LogFile) (Halt Refusal)) → Runs (understood read) old new result → (new ≡ old) × Gives result (refused_at read)
 unfolding Runs
@@ -115,30 +110,19 @@ no_log : (name : List ℕ) (mid new : Disk) (log : LogFile) → Runs (found_plan
 unfolding found_plan Runs
 no_log name mid new log (same, is) = cc
 
-read_as : (file : List ℕ) (given : Option LogFile) → loading file ≡ Ok given → log_of file ≡ Ok given
-read_as file given is = by_limit (nat_lt most_log (length file)) refl
-  where
-    ok_of : (r : Result (Option LogFile) ℕ) → refused_at r ≡ Ok given → r ≡ Ok given
-    ok_of (Ok value) e = let same : value ≡ given = cc in ap (λ (v : Option LogFile). Ok v) same
-    ok_of (Err place) e = absurd cc
-
-    by_limit : (b : Bool) → nat_lt most_log (length file) ≡ b → log_of file ≡ Ok given
-    by_limit true test = absurd (let e = rw test at is in cc)
-    by_limit false test = ok_of (log_of file) (let e = rw test at is in e)
-
--- After a load that gave a log the file rests, with this log.
-pub load_rests : (name : List ℕ) (old new : Disk) (t : Told) (log : LogFile) → old.told ≡ Some t → Runs (load_plan name) old new (Ok (Some log)) → Rests new name (bytes_of (t.holds name)) × (log_of (bytes_of (t.holds name)) ≡ Ok (Some log))
+-- After a load that gave a log the file rests, and loads as this log.
+load_rests : (name : List ℕ) (old new : Disk) (t : Told) (log : LogFile) → old.told ≡ Some t → Runs (load_plan name) old new (Ok (Some log)) → Rests new name (bytes_of (t.holds name)) × (loading (bytes_of (t.holds name)) ≡ Ok (Some log))
 unfolding load_plan Runs followed_by
 load_rests name old new t log told (mid, Ok None, acts, goes) = absurd (no_log name mid new log goes)
 load_rests name old new t log told (mid, Ok (Some size), acts, goes) =
     let loads = load_found name size old mid new t (Ok (Some log)) told (acts.size t told) (step_keeps name (Ask name) old mid (Ok (Some size)) tt acts) goes in
-    (loads.rests (Some log) refl, read_as (bytes_of (t.holds name)) (Some log) loads.gives)
+    (loads.rests (Some log) refl, loads.gives)
 load_rests name old new t log told (mid, Err fault, acts, (same, is)) = absurd cc
 
-pub load_holds : (name : List ℕ) (old new : Disk) (t : Told) (log : LogFile) → old.told ≡ Some t → IsBytes (bytes_of (t.holds name)) → Runs (load_plan name) old new (Ok (Some log)) → Holds new name log
-load_holds name old new t log told fits runs =
+pub load_keeps : (name : List ℕ) (old new : Disk) (t : Told) (log : LogFile) → old.told ≡ Some t → IsLog log → Runs (load_plan name) old new (Ok (Some log)) → Keeps new name log
+load_keeps name old new t log told is runs =
     let l = load_rests name old new t log told runs in
-    record { file = bytes_of (t.holds name); rests = l.0; is_log = log_takes (bytes_of (t.holds name)) log fits l.1; holds = l.1 }
+    record { file = bytes_of (t.holds name); rests = l.0; is_log = is; loads = l.1 }
 
 -- After a load that found no log the file awaits a birth, if no crash would have left one where the name is absent.
 pub load_awaits : (name : List ℕ) (old new : Disk) (t : Told) → old.told ≡ Some t → (t.holds name ≡ None → IsWithin name 43 old) → Runs (load_plan name) old new (Ok None) → AwaitsBirth new name
@@ -149,5 +133,63 @@ load_awaits name old new t told short (mid, Ok None, acts, goes) =
     inr (within_kept name 43 old new (subst (λ (d : Disk). Kept name old.told d.told) (sym same) (step_keeps name (Ask name) old mid (Ok None) tt acts)) (short absent))
 load_awaits name old new t told short (mid, Ok (Some size), acts, goes) =
     let loads = load_found name size old mid new t (Ok None) told (acts.size t told) (step_keeps name (Ask name) old mid (Ok (Some size)) tt acts) goes in
-    inl (bytes_of (t.holds name), loads.rests None refl, read_as (bytes_of (t.holds name)) None loads.gives)
+    inl (bytes_of (t.holds name), loads.rests None refl, loads.gives)
 load_awaits name old new t told short (mid, Err fault, acts, (same, is)) = absurd cc
+
+-- ---- crashes of a load
+
+-- a file that rests goes on to
+step_rests : (name file : List ℕ) → KeepsBy (λ d. Rests d name file) (Sync name)
+step_rests name file old mid got rests acts = let u = acts.told rests.now rests.told in by_answer got u.0 u.1 u.2
+  where
+    same_rests : (u : Told) → mid.told ≡ Some u → u ≡ ticking 1 rests.now → Rests mid name file
+    same_rests u told same = record { now = ticking 1 rests.now; told = told ∙ ap (λ (v : Told). Some v) same; bytes = rests.bytes; loose = rests.loose }
+
+    by_answer : (got : Result (Unit {0}) Fault) (u : Told) → mid.told ≡ Some u → Leaves got (λ t u. IsSynced name t u) (λ t u. u ≡ ticking 1 t) rests.now u → Rests mid name file
+    by_answer (Ok x) u told c = record { now = u; told = told; bytes = ap bytes_of c.named ∙ rests.bytes; loose = c.loose ∙ ap settled rests.bytes }
+    by_answer (Err ReadFault) u told c = absurd c
+    by_answer (Err WriteFault) u told same = same_rests u told same
+    by_answer (Err Memory) u told same = same_rests u told same
+
+step_within : (name : List ℕ) → KeepsBy (IsWithin name 43) (Sync name)
+unfolding firm followed_by
+step_within name = ((firm_keeps_within Refusal name 0 [] 43 (omega arith)).1 tt).0
+
+step_awaits : (name : List ℕ) → KeepsBy (λ d. AwaitsBirth d name) (Sync name)
+step_awaits name old mid got (inl (file, rests, unborn)) acts = inl (file, step_rests name file old mid got rests acts, unborn)
+step_awaits name old mid got (inr within) acts = inr (step_within name old mid got within acts)
+
+understood_each : (I : Disk → Type 0) (read : Result (Option LogFile) ℕ) → Each (KeepsBy I) (understood read)
+understood_each I (Ok value) = tt
+understood_each I (Err place) = tt
+
+found_by : (name : List ℕ) (I : Disk → Type 0) → ((size : ℕ) → KeepsBy I (Read name size)) → KeepsBy I (Sync name) → (size : ℕ) (b : Bool) → nat_lt most_log size ≡ b → Each (KeepsBy I) (found_plan name (Some size))
+unfolding found_plan within_limit followed_by
+found_by name I read sync size true is = rw is tt
+found_by name I read sync size false is = rw is (sync, λ synced. (read size, λ bytes. understood_each I (log_of bytes)))
+
+found_each : (name : List ℕ) (I : Disk → Type 0) → ((size : ℕ) → KeepsBy I (Read name size)) → KeepsBy I (Sync name) → (size : Option ℕ) → Each (KeepsBy I) (found_plan name size)
+unfolding found_plan
+found_each name I read sync None = tt
+found_each name I read sync (Some size) = found_by name I read sync size (nat_lt most_log size) refl
+
+-- Each step of a load keeps what is so, if a sync does and what leaves the name alone.
+load_each : (name : List ℕ) (I : Disk → Type 0) → ((old new : Disk) → Kept name old.told new.told → I old → I new) → KeepsBy I (Sync name) → Each (KeepsBy I) (load_plan name)
+unfolding load_plan followed_by
+load_each name I kept sync = (
+  λ old mid got is acts. kept old mid (step_keeps name (Ask name) old mid got tt acts) is,
+  found_each name I (λ size. λ old mid got is acts. kept old mid (step_keeps name (Read name size) old mid got tt acts) is) sync,
+)
+
+-- A crash at any moment of a load leaves the log that every crash left before it.
+pub load_leaves : (name image : List ℕ) (log : LogFile) (old : Disk) → Keeps old name log → Crashes (load_plan name) old name image → loading image ≡ Ok (Some log)
+load_leaves name image log old keeps crash =
+    let file = keeps.file in
+    let d = sometime_kept (λ d. Rests d name file) (λ m. IsImage m name image) (load_plan name) old (load_each name (λ d. Rests d name file) (λ old new kept rests. rests_kept old new name file kept rests) (step_rests name file)) keeps.rests crash in
+    ap loading (rests_image d.0 name file image d.1 d.2) ∙ keeps.loads
+
+-- and none where a birth is awaited
+pub load_leaves_none : (name image : List ℕ) (old : Disk) → AwaitsBirth old name → Crashes (load_plan name) old name image → loading image ≡ Ok None
+load_leaves_none name image old awaits crash =
+    let d = sometime_kept (λ d. AwaitsBirth d name) (λ m. IsImage m name image) (load_plan name) old (load_each name (λ d. AwaitsBirth d name) (λ old new kept awaits. awaits_kept name old new kept awaits) (step_awaits name)) awaits crash in
+    awaits_loads name image d.0 d.1 d.2

@@ -35,7 +35,7 @@ pub fn born(alloc: Global, files: &mut MemFiles) -> Result<Store, AppendError>
 }
 
 /// The log with three entries of one time.
-#[tactic(auto, using(crate::proofs::Appended::three_may_follow, crate::proofs::Appended::three_more))]
+#[tactic(auto, using(crate::proofs::Appended::held_log, crate::proofs::Appended::three_may_follow, crate::proofs::Appended::three_more))]
 pub fn with_three(alloc: Global, files: &mut MemFiles, store: Store) -> Result<Store, AppendError>
     requires { HasNone (disk_of files.old) store }
     ensures { IfOk result (λ longer. HasThree (disk_of files.new) longer) }
@@ -48,7 +48,7 @@ pub fn with_three(alloc: Global, files: &mut MemFiles, store: Store) -> Result<S
 }
 
 /// The log with two entries more, of a later time.
-#[tactic(auto, using(crate::proofs::Appended::two_may_follow))]
+#[tactic(auto, using(crate::proofs::Appended::held_log, crate::proofs::Appended::two_may_follow))]
 pub fn with_five(alloc: Global, files: &mut MemFiles, store: Store) -> Result<Store, AppendError>
     requires { HasThree (disk_of files.old) store }
 {

@@ -1,11 +1,11 @@
 //! The log that a file holds.
 
-ghost use Rattle.std.specs.Prelude.{◌≡◌, ◌≤◌, ◌+◌, ◌++◌, ◌∷◌, [], Some, None, Ok, OnOk, length, map};
+ghost use Rattle.std.specs.Prelude.{◌≡◌, ◌≤◌, ◌+◌, ◌++◌, ◌∷◌, [], Some, None, Ok, IfOk, IfSome, OnOk, length, map};
 ghost use Rattle.nr_spec_wire.specs.Reading.{IsBytes};
 ghost use Rattle.nr_spec_plans.specs.Disk.{Told, bytes_of};
 ghost use Rattle.nr_spec_plans.specs.Plans.{Runs};
 ghost use Rattle.nr_spec_log.specs.Answer.{last_time};
-ghost use Rattle.nr_spec_store.specs.LogFile.{MayFollow, batch, log_of, most_log, spelled};
+ghost use Rattle.nr_spec_store.specs.LogFile.{IsLog, MayFollow, batch, log_of, most_log, spelled};
 ghost use Rattle.nr_spec_store.specs.StorePlans.{append_plan, birth_plan, load_plan, understood};
 ghost use Rattle.nr_chain.specs.Views.{entry_of};
 ghost use Rattle.nr_store.specs.Views.{Extends, Settles, appended, loaded};
@@ -64,7 +64,8 @@ fn bytes_in(bytes: &[u8]) -> &[u8]
 // The log of a file's bytes.
 fn open(alloc: Global, bytes: Vec<u8>) -> Result<Option<Store>, LoadError>
     requires { length bytes.items ≤ most_log }
-    ensures { Settles (λ store. store) result (understood (log_of bytes.items)) }
+    ensures log { IfOk result (λ found. IfSome found (λ store. IsLog store)) }
+    ensures gives { Settles (λ store. store) result (understood (log_of bytes.items)) }
 {
     if !is_born_file(&bytes) {
         return Ok(None);
@@ -113,7 +114,8 @@ impl Store {
         files: &mut F,
         name: &str,
     ) -> Result<Option<Store>, LoadError>
-        ensures { Runs (load_plan name.now) (F.disk files.old) (F.disk files.new) (loaded (λ store. store) result) }
+        ensures log { IfOk result (λ found. IfSome found (λ store. IsLog store)) }
+        ensures runs { Runs (load_plan name.now) (F.disk files.old) (F.disk files.new) (loaded (λ store. store) result) }
     {
         let Some(size) = files.size(name)? else {
             return Ok(None);

@@ -2,4 +2,4 @@ use Rattle.nr_laws_store.proofs.GateLaws.{append_leaves}
 use Rattle.nr_laws_store.proofs.appending.append_leaves_whole_batches.Goals as goal
 
 pub returns : goal.returns
-returns c = λ name log entries image old holds more crash. append_leaves name log entries holds.file image old holds.rests holds.is_log holds.holds more crash
+returns c = λ name log entries image old keeps more crash. append_leaves name log entries image old keeps more crash
