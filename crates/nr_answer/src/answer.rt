@@ -4,7 +4,7 @@ ghost use Rattle.std.specs.Prelude.{◌≡◌, ◌≤◌, IfSome, length};
 ghost use Rattle.std.specs.Option.{option_map};
 ghost use Rattle.nr_spec_wire.specs.Reading.{Answers};
 ghost use Rattle.nr_spec_log.specs.Authenticator.{authenticator};
-ghost use Rattle.nr_spec_log.specs.Answer.{answer_of, body_offset, most_first};
+ghost use Rattle.nr_spec_log.specs.Answer.{AreEntriesFrom, answer_of, body_offset, most_first};
 ghost use Rattle.nr_bytes.specs.Views.{offset_of};
 ghost use Rattle.nr_answer.specs.Views.{auth_of};
 
@@ -30,7 +30,7 @@ pub struct Answer<'a> {
 
 impl<'a> Model for Answer<'a> {
     ghost use Rattle.std.specs.Prelude.{◌≡◌, ◌≤◌, length};
-    ghost use Rattle.nr_spec_log.specs.Answer.{AnswerFile, answer_from, most_first};
+    ghost use Rattle.nr_spec_log.specs.Answer.{AnswerFile, AreEntriesFrom, answer_from, most_first};
     ghost use Rattle.nr_answer.specs.Openings.{opening_of};
     ghost use Rattle.nr_answer.specs.Views.{auth_of};
 
@@ -38,7 +38,8 @@ impl<'a> Model for Answer<'a> {
 
     ghost view = { λ a. answer_from (opening_of a.front) a.entries (auth_of a.head) };
 
-    ghost invariant = { λ a. (a.front.first ≤ most_first) × (a.front.count ≡ length a.entries) };
+    ghost invariant = { λ a. (a.front.first ≤ most_first) × (a.front.count ≡ length a.entries)
+        × AreEntriesFrom 0 a.entries };
 }
 
 impl<'a> Answer<'a> {
@@ -106,9 +107,10 @@ impl<'a> Answer<'a> {
         }
     }
 
-    /// The entries, in order.
+    /// The entries, in order. Their times never run back.
     pub fn entries(&self) -> Entries<'a>
-        ensures { result ≡ self.now.entries }
+        ensures value { result ≡ self.now.entries }
+        ensures fit { AreEntriesFrom 0 result }
     {
         self.entries.fork()
     }

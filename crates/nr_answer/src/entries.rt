@@ -3,7 +3,7 @@
 ghost use Rattle.std.specs.Prelude.{◌≡◌, IfOk, length};
 ghost use Rattle.std.specs.Iterator.{YieldsFirstBy, item_count};
 ghost use Rattle.nr_spec_wire.specs.Reading.{Reads, IsOnward};
-ghost use Rattle.nr_spec_log.specs.Answer.{is_wanted, entry_at, entries_at, last_time};
+ghost use Rattle.nr_spec_log.specs.Answer.{AreEntriesFrom, is_wanted, entry_at, entries_at, last_time};
 ghost use Rattle.nr_bytes.specs.Views.{offset_of};
 ghost use Rattle.nr_chain.specs.Views.{entry_of};
 
@@ -128,6 +128,7 @@ pub fn read_entries<'a>(
     ensures value { Reads (λ read. read.0) offset_of result cursor.new (entries_at checkpoint 0 count cursor.old) }
     ensures last { IfOk result (λ read. read.1 ≡ last_time 0 read.0) }
     ensures count { IfOk result (λ read. length read.0 ≡ count) }
+    ensures fit { IfOk result (λ read. AreEntriesFrom 0 read.0) }
     ensures onward { IsOnward cursor.old cursor.new }
 {
     let start = cursor.fork();

@@ -12,3 +12,5 @@ pub mod Growing
 pub mod Marks
 pub mod Kept
 pub mod Walking
+pub mod Order
+pub mod Known

@@ -8,7 +8,6 @@ ghost use Rattle.nr_spec_promises.specs.Broken.{AreBroken};
 ghost use Rattle.nr_spec_promises.specs.Counted.{most_asked};
 ghost use Rattle.nr_evidence.specs.Views.{period_of};
 ghost use Rattle.nr_runs.specs.Views.{runs_in};
-ghost use Rattle.nr_judging.specs.Times.{NeverBack};
 ghost use Rattle.nr_judging.specs.Views.{AreFew, AreKnown, files_in};
 
 use crate::file::{File, file_with, promised};
@@ -49,7 +48,6 @@ pub fn broken_runs<J: Judge<L>, L: Ledger>(
 ) -> Result<Vec<Run>, Memory>
     requires knows { AreKnown (λ i r. J.knows judge.now i r ≡ true) (files_in files.now) }
     requires few { AreFew (files_in files.now) }
-    requires order { NeverBack 0 answer.now.entries }
     ensures broken { IfOk result (λ found. AreBroken (files_in files.now) (J.truth judge.now)
         (moments (files_in files.now) nothing_before (period_of period.now) answer.now.entries)
         period.now.to (runs_in found.items)) }

@@ -46,7 +46,7 @@ pub const DIGEST: Digest = Digest([
 ]);
 
 /// The broken runs of a period, of a log whose first PROMISE is by the file.
-#[tactic(auto, using(crate::proofs::Known::one_known, crate::proofs::Known::one_few))]
+#[tactic(auto, using(nr_judging::proofs::Known::one_known, nr_judging::proofs::Known::one_few))]
 pub fn broken<L: Ledger>(
     alloc: Global,
     typed: &Typed,

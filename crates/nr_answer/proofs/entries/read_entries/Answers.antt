@@ -1,10 +1,11 @@
 use Rattle.std.proofs.Common.{◌≡◌, sym, ap, subst, ◌∙◌, Err, rules}
 use Rattle.std.proofs.lemmas.Result.{err_from_is_err_and}
-use Rattle.nr_spec_wire.specs.Reading.{Spot}
+use Rattle.nr_spec_wire.specs.Reading.{Spot, IsBytes}
 use Rattle.nr_spec_log.specs.Answer.{entries_at}
 use Rattle.nr_spec_log.proofs.EntrySteps.{length-entries, ending-goes, ending-fails, ending-done}
 use Rattle.nr_bytes.specs.Views.{offset_of}
 use Rattle.nr_chain.specs.Views.{entry_of}
+use Rattle.nr_laws_log.proofs.EntryLaws.{entries_take}
 use Rattle.nr_answer.proofs.entries.read_entries.Goals as goal
 
 pub returns-in_err-entry-clause-value : goal.returns-in_err-entry-clause-value
@@ -37,3 +38,9 @@ returns-clause-last c = (ending-done c.loop.wanted c.loop.last c.args.count c.lo
 
 pub returns-clause-count : goal.returns-clause-count
 returns-clause-count c = length-entries c.args.checkpoint 0 c.args.count c.fork-start.result (invariant_of-entries c)
+
+pub returns-clause-fit : goal.returns-clause-fit
+returns-clause-fit c = (entries_take c.args.checkpoint 0 c.args.count c.fork-start.result _ c.loop.cursor
+    (subst (λ (s : Spot). IsBytes s.rest) (sym c.fork-start.ensures.same) c.fork-start.ensures.bytes)
+    (ending-done c.loop.wanted c.loop.last c.args.count c.loop.counter c.loop.cursor
+    (entries_at c.args.checkpoint 0 c.args.count c.fork-start.result) c.loop-test.false c.loop.invariant.so_far).is_read).0.entries
