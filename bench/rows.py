@@ -1,6 +1,7 @@
 #!/usr/bin/env python3
-"""Prints the logs of the program's rows on wrong entries, for crates/netreview/src/wrong_tests.rt: each entry in
-hexadecimal digits, the chain value of the last, and the lines that an audit over a period prints."""
+"""Prints the logs of the program's rows on wrong entries and on broken promises, for crates/netreview/src/wrong_tests.rt
+and broken_tests.rt: each entry in hexadecimal digits, the chain value of the last, and the lines that an audit over a
+period prints."""
 
 import struct
 
@@ -15,7 +16,15 @@ KEEPALIVE = MARKER + b"\0\x13\4"
 TOO_LONG = MARKER + b"\0\x14\4\0"
 # 10.1.0.0/16 withdrawn and announced.
 ROUTE = bytes.fromhex("0031020003100a0100144001010040020602010000fbf4400304c0000202100a01")
+WITHDRAWN = bytes.fromhex("001a020003100a010000")
 SECOND = 1_000_000
+QUIET = """network 64500;
+commit 60;
+neighbour p as 64501 at 192.0.2.1;
+neighbour q as 64502 at 192.0.2.2;
+group peers = p, q;
+promise quiet grace %d { all n in peers { not sent(n) } }
+"""
 
 
 class Row:
@@ -82,7 +91,28 @@ def checkpoints():
     return row
 
 
+def quiet(grace, sent, withdrawn):
+    """A log in which 10.1.0.0/16 is sent to a peer and withdrawn, under a promise that nothing is sent to peers; what an
+    audit up to 20 s prints."""
+    text = (QUIET % grace).encode()
+    row = Row()
+    row.add(0, history.PROMISE, logs.promise(text, 2, 60))
+    row.add(sent, history.SEND, days.exchange(1, MARKER + ROUTE))
+    row.add(withdrawn, history.SEND, days.exchange(1, MARKER + WITHDRAWN))
+    row.add(20 * SECOND + 1, history.COMMIT, logs.commit(logs.AUDITOR, 0))
+    print("quiet, grace", grace)
+    for entry in row.log.entries:
+        print("   ", logs.entry(*entry).hex())
+    print("   ", row.log.values[-1].hex())
+    if withdrawn - sent >= grace * SECOND:
+        print("    broken quiet 10.1.0.0/16", sent, withdrawn)
+
+
 if __name__ == "__main__":
     print("the digest of the promise file:", logs.sha256(FILE).hex())
     each_cause().show("each cause", 0, 60 * SECOND + 1)
     checkpoints().show("checkpoints", 0, 7 * SECOND - 1)
+    quiet(4, 5 * SECOND, 9 * SECOND)
+    quiet(5, 5 * SECOND, 9 * SECOND)
+    quiet(0, 5 * SECOND, 5 * SECOND)
+    quiet(1, 5 * SECOND, 5 * SECOND)

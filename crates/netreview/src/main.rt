@@ -4,6 +4,8 @@
 #[cfg(test)]
 mod audit_tests;
 #[cfg(test)]
+mod broken_tests;
+#[cfg(test)]
 mod check_tests;
 #[cfg(test)]
 mod keygen_tests;

@@ -6,12 +6,14 @@ use nr_bytes::{put_bytes, put_u8, put_u32, put_u64};
 use std::alloc::Global;
 use std::test::Fail;
 
-// A log: its entries, how many they are, the time of the last, and its chain value.
-struct Log {
-    entries: &'static [&'static str],
-    count: u32,
-    time: u64,
-    value: &'static str,
+// A log: the promise file by which it is audited, its entries, how many they are, the time of the last, and its chain
+// value.
+pub struct Log {
+    pub file: &'static [u8],
+    pub entries: &'static [&'static str],
+    pub count: u32,
+    pub time: u64,
+    pub value: &'static str,
 }
 
 // What the rows audit by.
@@ -24,6 +26,7 @@ neighbour q as 64502 at 192.0.2.2;
 // An entry for each cause. The promise comes third, and says one neighbour more than its file. The message of entry 2
 // waits for a minute at entry 8, and for longer at entry 9; entry 10 is the COMMIT that is due.
 const EACH_CAUSE: Log = Log {
+    file: FILE,
     entries: &[
         "0000000000000000050006ffff00000000",
         "0000000000000000010016000001ffffffffffffffffffffffffffffffff001304",
@@ -45,6 +48,7 @@ const EACH_CAUSE: Log = Log {
 // Entries 4, 6 and 10 are true checkpoints: two routes stand, each withdrawn and announced by its message; the one with
 // neighbour 0 is gone after its malformed message; and it stands again. Entry 9 leaves out a row.
 const CHECKPOINTS: Log = Log {
+    file: FILE,
     entries: &[
         "000000000000000007002691172cfca9feb6d998432fddf856180c0d81581256417b4d070bbd390f245df000020000003c",
         "00000000000f4240020034000001ffffffffffffffffffffffffffffffff0031020003100a0100144001010040020602010000fbf4400304c0000202100a01",
@@ -81,7 +85,7 @@ fn answer_of(alloc: Global, log: &Log) -> Result<Vec<u8>, Fail> {
 }
 
 // Whether an audit of a log over a period, with an authenticator at time 0 that no entry is, ends so.
-fn audit_of(
+pub fn audit_of(
     alloc: Global,
     log: &Log,
     from: &str,
@@ -93,7 +97,7 @@ fn audit_of(
     put_bytes(&mut auths, b"NRT1")?;
     put_auth(alloc, &mut auths, 5, 0, &[1; 32])?;
     let mut files = row_files(alloc)?;
-    files.put("p", FILE)?;
+    files.put("p", log.file)?;
     files.put("a", answer_of(alloc, log)?.as_slice())?;
     files.put("t", auths.as_slice())?;
     let words = audit_words(alloc, from, to)?;

@@ -5,7 +5,7 @@ use Rattle.std.specs.Str.{bytes_eq}
 use Rattle.std.proofs.lemmas.List.{at_drop_more}
 use Rattle.nr_spec_counts.specs.Tallies.{Numbers}
 use Rattle.nr_spec_counts.specs.Causes.{file_with}
-use Rattle.nr_spec_report.specs.Outcome.{first_digest, is_of_no_file, numbers_of_all}
+use Rattle.nr_spec_outcome.specs.Outcome.{first_digest, is_of_no_file, numbers_of_all}
 use Rattle.nr_audit.specs.declared.audited.Audited.{Audited}
 use Rattle.nr_audit.specs.Views.{audited_of}
 use Rattle.nr_discipline.specs.Views.{numbers_of}

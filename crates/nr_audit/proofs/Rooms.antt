@@ -28,10 +28,6 @@ room_commits past k kept few =
     let most = count_by-le-length (λ e. is_commit (content_of e)) past in
     omega arith
 
-pub rows_none : rows_after [] [] ≡ []
-unfolding rows_after
-rows_none = refl
-
 pub tally_none : tally_after nothing_yet [] ≡ nothing_yet
 unfolding tally_after
 tally_none = refl

@@ -13,7 +13,7 @@ use Rattle.nr_spec_history.specs.Conflicts.{Period}
 use Rattle.nr_spec_counts.specs.Tallies.{Numbers, Tally, promise_in, tally_after}
 use Rattle.nr_spec_counts.proofs.OneMore.{one_counted}
 use Rattle.nr_spec_report.specs.Wrong.{Base, is_within, nothing_before}
-use Rattle.nr_spec_report.specs.Outcome.{digest_list, digests_in_force, digests_within, force_before, is_of_no_file, misfit, promised}
+use Rattle.nr_spec_outcome.specs.Outcome.{digest_list, digests_in_force, digests_within, force_before, is_of_no_file, misfit, promised}
 use Rattle.nr_audit.specs.Seen.{Seen}
 use Rattle.nr_audit.specs.Force.{digest_in, digest_of, misfit_seen, seen_after, seen_by, seen_more}
 

@@ -1,8 +1,8 @@
 -- What an audit answers.
 use Rattle.std.specs.Prelude.{◌≡◌, List, Result, Ok, Err, option_map}
 use Rattle.nr_spec_log.specs.Authenticator.{Authenticator}
-use Rattle.nr_spec_report.specs.Claims as claims
-use Rattle.nr_spec_report.specs.Outcome as outcome
+use Rattle.nr_spec_outcome.specs.Report as report
+use Rattle.nr_spec_outcome.specs.Outcome as outcome
 use Rattle.nr_chain.specs.Views.{digest_bytes}
 use Rattle.nr_audit.specs.Views.{report_of}
 use Rattle.nr_audit.specs.declared.report.Report.{Report}
@@ -10,7 +10,7 @@ use Rattle.nr_audit.specs.declared.refusal.Refusal.{Refusal}
 use Rattle.nr_audit.specs.declared.refusal.Refusal.TheVariants as refusal
 
 -- The report on these authenticators; or the fact that refuses the answer, with its values. Memory may run out.
-abbrev pub Answers : List Authenticator → Result Report Refusal → Result claims.Report outcome.Fact → Type 0
+abbrev pub Answers : List Authenticator → Result Report Refusal → Result report.Report outcome.Fact → Type 0
 Answers auths (Ok report) o = o ≡ Ok (report_of auths report)
 Answers auths (Err (refusal.Network answer promise)) o = o ≡ Err (outcome.Network answer promise)
 Answers auths (Err refusal.Unsigned) o = o ≡ Err outcome.Unsigned

@@ -7,7 +7,7 @@ use Rattle.nr_spec_routes.specs.LookBack.{later_or}
 use Rattle.nr_spec_history.specs.Conflicts.{Period}
 use Rattle.nr_spec_counts.specs.Tallies.{Numbers, promise_in}
 use Rattle.nr_spec_report.specs.Wrong.{Base, is_within}
-use Rattle.nr_spec_report.specs.Outcome.{digests_within, force_before, is_of_no_file}
+use Rattle.nr_spec_outcome.specs.Outcome.{digests_within, force_before, is_of_no_file}
 use Rattle.nr_audit.specs.Seen.{Seen}
 
 abbrev pub digest_of : Numbers → List ℕ

@@ -1,27 +1,36 @@
 //! What stands after the entries so far, and the wrong ones among them.
 
-ghost use Rattle.std.specs.Prelude.{◌≡◌, ◌++◌, ◌∷◌, [], ◌<◌, ◌^◌, ◌+◌, ℕ, List, IfOk, OnOk, None, Option, length, map, slice_index, if◌then◌else◌};
+ghost use Rattle.std.specs.Prelude.{◌≡◌, ◌≤◌, ◌++◌, ◌∷◌, [], ◌<◌, ◌^◌, ◌+◌, ℕ, List, IfOk, OnOk, None, Option, length, map, slice_index, if◌then◌else◌, true};
 ghost use Rattle.nr_chain.specs.Views.{entry_of};
 ghost use Rattle.nr_spec_log.specs.Chain.{LogEntry};
-ghost use Rattle.nr_spec_routes.specs.Keys.{Row};
-ghost use Rattle.nr_spec_routes.specs.Rows.{rows_after};
 ghost use Rattle.nr_spec_counts.specs.Tallies.{Numbers, Tally};
 ghost use Rattle.nr_spec_history.specs.Conflicts.{Period as SpecPeriod};
 ghost use Rattle.nr_spec_counts.specs.Causes.{cause_of};
+ghost use Rattle.nr_spec_truth.specs.Truths.{Truth};
 ghost use Rattle.nr_spec_report.specs.Wrong.{Base, is_within, nothing_before, wrong_by};
+ghost use Rattle.nr_spec_promises.specs.Files.{PromiseFile, file_with, first_promised};
+ghost use Rattle.nr_spec_promises.specs.Counted.{most_asked};
+ghost use Rattle.nr_spec_promises.specs.Found as found;
 ghost use Rattle.nr_discipline.specs.Kept.{IsKeptOf};
 ghost use Rattle.nr_discipline.specs.Views.{numbers_of};
 ghost use Rattle.nr_evidence.specs.Views.{period_of};
-ghost use Rattle.nr_audit.specs.Checked.{Follows, cause_within};
+ghost use Rattle.nr_runs.specs.Views.{runs_in};
+ghost use Rattle.nr_judging.specs.Times.{NeverBack};
+ghost use Rattle.nr_judging.specs.Views.{AreFew, AreKnown, files_in};
+ghost use Rattle.nr_audit.specs.Checked.{Follows, asked_by, cause_within};
 ghost use Rattle.nr_audit.specs.Views.{wrong_of};
 
 use nr_bytes::Memory;
 use nr_chain::Entry;
 use nr_discipline::{Cause, Counts, FileNumbers, allowed};
 use nr_evidence::Period;
-use nr_tables::{State, Touched};
+use nr_judging::{File, Judging};
+use nr_rule_eval::Judge;
+use nr_runs::Run;
+use nr_steps::Steps;
+use nr_tables::State;
 use std::alloc::Global;
-use std::mem;
+use std::sync::ledger::Ledger;
 
 /// A wrong entry: its number and its cause.
 #[derive(Clone, Copy, Debug)]
@@ -30,12 +39,11 @@ pub struct WrongEntry {
     pub cause: Cause,
 }
 
-/// The routes and the counts after the entries so far, and the wrong ones among these.
+/// The routes, the runs and the counts after the entries so far, and the wrong ones among these.
 #[derive(Drop)]
 pub struct Checked {
-    state: State,
+    judging: Judging,
     counts: Counts,
-    touched: Touched,
     wrong: Vec<WrongEntry>,
 }
 
@@ -78,63 +86,92 @@ fn add(wrong: &mut Vec<WrongEntry>, seq: u64, cause: Option<Cause>) -> Result<()
     }
 }
 
-// The routes after one entry more. After `Memory` they are gone.
-fn advance(
-    alloc: Global,
-    state: &mut State,
-    touched: &mut Touched,
-    entry: &Entry<'_>,
-) -> Result<(), Memory>
-    ensures { OnOk result ((base : List Row) (past : List LogEntry) → state.old ≡ rows_after base past
-        → state.new ≡ rows_after base (past ++ entry_of entry.now ∷ [])) }
-{
-    let before = mem::replace(state, State::new(alloc));
-    *state = before.step(entry, touched)?;
-    Ok(())
-}
-
 impl Checked {
-    /// Before the first entry of a log.
-    pub fn new(alloc: Global) -> Checked
-        ensures { (files : List Numbers) (period : SpecPeriod) (first : ℕ)
-            → Follows files nothing_before period first [] result }
+    /// Before the first entry of a log: the number is that of the file of its first PROMISE.
+    pub fn new(alloc: Global, file: Option<u16>) -> Checked
+        ensures { (files : List Numbers) (promises : List PromiseFile) (truth : Truth) (period : SpecPeriod)
+            (opening : Option (List ℕ)) (first : ℕ) → file ≡ file_with promises opening
+            → Follows files promises truth nothing_before period opening first [] result }
     {
         Checked {
-            state: State::new(alloc),
+            judging: Judging::new(alloc, file),
             counts: Counts::new(),
-            touched: Touched::new(alloc),
             wrong: Vec::new(alloc),
         }
     }
 
-    /// One entry more, which is checked and then applied. After `Memory` the routes are gone.
-    pub fn take(
-        &mut self,
+    /// One entry more, which is checked and then applied, and whose touched prefixes are judged. After `Memory` all is
+    /// gone.
+    pub fn take<J: Judge<L>, L: Ledger>(
+        self,
         alloc: Global,
         period: &Period,
         files: &[FileNumbers],
+        promises: &[File<'_>],
         seq: u64,
         entry: &Entry<'_>,
-    ) -> Result<(), Memory>
-        requires sends { (n : ℕ) → n < 256 → slice_index self.old.counts.sends n + 1 < 2 ^ 64 }
-        requires commits { self.old.counts.commits + 1 < 2 ^ 64 }
-        ensures { OnOk result ((base : Base) (first : ℕ) (past : List LogEntry) → seq ≡ first + length past
-            → Follows (map numbers_of files.now) base (period_of period.now) first past self.old
-            → Follows (map numbers_of files.now) base (period_of period.now)
-            first (past ++ entry_of entry.now ∷ []) self.new) }
+        judge: &J,
+        steps: &mut Steps<L>,
+    ) -> Result<Checked, Memory>
+        requires sends { (n : ℕ) → n < 256 → slice_index self.counts.sends n + 1 < 2 ^ 64 }
+        requires commits { self.counts.commits + 1 < 2 ^ 64 }
+        requires knows { AreKnown (λ i r. J.knows judge.now i r ≡ true) (files_in promises.now) }
+        requires few { AreFew (files_in promises.now) }
+        ensures follows { IfOk result (λ new. (base : Base) (opening : Option (List ℕ)) (first : ℕ)
+            (past : List LogEntry) → seq ≡ first + length past → NeverBack 0 (past ++ entry_of entry.now ∷ [])
+            → Follows (map numbers_of files.now) (files_in promises.now) (J.truth judge.now) base
+            (period_of period.now) opening first past self
+            → Follows (map numbers_of files.now) (files_in promises.now) (J.truth judge.now) base
+            (period_of period.now) opening first (past ++ entry_of entry.now ∷ []) new) }
+        ensures counted { (base : Base) (opening : Option (List ℕ)) (first : ℕ) (past : List LogEntry)
+            → NeverBack 0 (past ++ entry_of entry.now ∷ [])
+            → Follows (map numbers_of files.now) (files_in promises.now) (J.truth judge.now) base
+            (period_of period.now) opening first past self
+            → steps.new + asked_by (files_in promises.now) base opening (period_of period.now) past
+            ≤ steps.old + asked_by (files_in promises.now) base opening (period_of period.now)
+            (past ++ entry_of entry.now ∷ []) }
     {
-        let cause = cause_within(period, files, seq, &self.state, &self.counts, entry);
-        add(&mut self.wrong, seq, cause)?;
-        advance(alloc, &mut self.state, &mut self.touched, entry)?;
-        self.counts.step(entry);
-        Ok(())
+        let Checked {
+            judging,
+            mut counts,
+            mut wrong,
+        } = self;
+        let cause = cause_within(period, files, seq, judging.state(), &counts, entry);
+        let judging = judging.take(alloc, promises, judge, period, entry, steps)?;
+        add(&mut wrong, seq, cause)?;
+        counts.step(entry);
+        Ok(Checked {
+            judging,
+            counts,
+            wrong,
+        })
     }
 
-    /// The wrong entries, by their numbers.
-    pub fn into_wrong(self) -> Vec<WrongEntry>
-        ensures { result ≡ self.wrong }
+    /// The wrong entries, by their numbers, and the broken runs, by file, promise, prefix and the order in which they
+    /// begin.
+    pub fn close<J: Judge<L>, L: Ledger>(
+        self,
+        alloc: Global,
+        period: &Period,
+        promises: &[File<'_>],
+        judge: &J,
+        steps: &mut Steps<L>,
+    ) -> Result<(Vec<WrongEntry>, Vec<Run>), Memory>
+        requires knows { AreKnown (λ i r. J.knows judge.now i r ≡ true) (files_in promises.now) }
+        requires few { AreFew (files_in promises.now) }
+        ensures wrong { IfOk result (λ told. told.0 ≡ self.wrong) }
+        ensures broken { IfOk result (λ told. (files : List Numbers) (base : Base) (first : ℕ) (all : List LogEntry)
+            → NeverBack 0 all → Follows files (files_in promises.now) (J.truth judge.now) base (period_of period.now)
+            (first_promised all) first all self → runs_in told.1.items
+            ≡ found.broken_runs (files_in promises.now) (J.truth judge.now) base (period_of period.now) all) }
+        ensures counted { (files : List Numbers) (base : Base) (first before : ℕ) (all : List LogEntry)
+            → NeverBack 0 all → Follows files (files_in promises.now) (J.truth judge.now) base (period_of period.now)
+            (first_promised all) first all self
+            → steps.old ≤ before + asked_by (files_in promises.now) base (first_promised all) (period_of period.now) all
+            → steps.new ≤ before + most_asked (files_in promises.now) base (period_of period.now) all }
     {
-        let Checked { wrong, .. } = self;
-        wrong
+        let Checked { judging, wrong, .. } = self;
+        let broken = judging.close(alloc, promises, judge, period, steps)?;
+        Ok((wrong, broken))
     }
 }

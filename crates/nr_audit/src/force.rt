@@ -7,7 +7,7 @@ ghost use Rattle.nr_spec_entry.specs.ContentReading.{content_of};
 ghost use Rattle.nr_spec_counts.specs.Tallies.{Numbers, promise_in};
 ghost use Rattle.nr_spec_history.specs.Conflicts.{Period as SpecPeriod};
 ghost use Rattle.nr_spec_report.specs.Wrong.{Base, nothing_before};
-ghost use Rattle.nr_spec_report.specs.Outcome.{digests_in_force, is_of_no_file, misfit};
+ghost use Rattle.nr_spec_outcome.specs.Outcome.{digests_in_force, is_of_no_file, misfit};
 ghost use Rattle.nr_discipline.specs.Views.{numbers_of};
 ghost use Rattle.nr_evidence.specs.Views.{period_of};
 ghost use Rattle.nr_audit.specs.Force.{digest_in, misfit_seen, seen_after, seen_more};

@@ -1,14 +1,18 @@
 //! One walk over the entries of an answer.
 
-ghost use Rattle.std.specs.Prelude.{◌≡◌, ◌∷◌, [], ◌<◌, ◌^◌, ◌+◌, ℕ, List, IfOk, OnOk, length, map, slice_index};
+ghost use Rattle.std.specs.Prelude.{◌≡◌, ◌≤◌, ◌∷◌, [], ◌<◌, ◌^◌, ◌+◌, ℕ, List, IfOk, length, map, slice_index, true};
 ghost use Rattle.nr_chain.specs.Views.{entry_of};
 ghost use Rattle.nr_spec_log.specs.Answer.{AnswerFile};
 ghost use Rattle.nr_spec_log.specs.Authenticator.{Authenticator};
 ghost use Rattle.nr_spec_log.specs.Chain.{LogEntry};
 ghost use Rattle.nr_spec_counts.specs.Tallies.{Numbers};
 ghost use Rattle.nr_spec_history.specs.Conflicts.{Period as SpecPeriod};
+ghost use Rattle.nr_spec_truth.specs.Truths.{Truth};
+ghost use Rattle.nr_spec_report.specs.Wrong.{nothing_before};
+ghost use Rattle.nr_spec_promises.specs.Counted.{most_asked};
 ghost use Rattle.nr_discipline.specs.Views.{numbers_of};
 ghost use Rattle.nr_evidence.specs.Views.{period_of};
+ghost use Rattle.nr_judging.specs.Views.{AreFew, AreKnown, files_in};
 ghost use Rattle.nr_audit.specs.Walks.{Walks};
 
 use crate::checked::Checked;
@@ -20,7 +24,11 @@ use nr_bytes::Memory;
 use nr_chain::{Entry, Walk};
 use nr_discipline::FileNumbers;
 use nr_evidence::Period;
+use nr_judging::{File, first_file};
+use nr_rule_eval::Judge;
+use nr_steps::Steps;
 use std::alloc::Global;
+use std::sync::ledger::Ledger;
 
 /// What the entries so far leave.
 #[derive(Drop)]
@@ -32,59 +40,95 @@ pub struct Walked {
 
 impl Walked {
     // Before the first entry of an answer.
-    fn new(alloc: Global, answer: &Answer<'_>, auths: &Auths<'_>) -> Result<Walked, Memory>
-        ensures { IfOk result (λ walked. (files : List Numbers) (period : SpecPeriod)
-            → Walks files period answer.now auths.now answer.now.entries walked) }
+    fn new(
+        alloc: Global,
+        promises: &[File<'_>],
+        answer: &Answer<'_>,
+        auths: &Auths<'_>,
+    ) -> Result<Walked, Memory>
+        requires { length promises.now ≤ 16 }
+        ensures { IfOk result (λ walked. (files : List Numbers) (truth : Truth) (period : SpecPeriod) (steps : ℕ)
+            → Walks files (files_in promises.now) truth period answer.now auths.now steps steps answer.now.entries
+            walked) }
     {
+        let entries = answer.entries();
         Ok(Walked {
             links: Links {
                 walk: Walk::new(answer.prev(), answer.first()),
                 slots: Slots::of(alloc, auths)?,
             },
-            checked: Checked::new(alloc),
+            checked: Checked::new(alloc, first_file(promises, entries)),
             force: Force::new(),
         })
     }
 
-    // One entry more: it is hashed and linked, checked and applied. After `Memory` the routes are gone.
-    fn take(
-        &mut self,
+    // One entry more: it is hashed and linked, checked and applied, and judged. After `Memory` all is gone.
+    fn take<J: Judge<L>, L: Ledger>(
+        self,
         alloc: Global,
         period: &Period,
         files: &[FileNumbers],
+        promises: &[File<'_>],
         entry: &Entry<'_>,
-    ) -> Result<(), Memory>
-        requires number { self.old.links.walk.seq < 2 ^ 63 }
-        requires sends { (n : ℕ) → n < 256 → slice_index self.old.checked.counts.sends n + 1 < 2 ^ 64 }
-        requires commits { self.old.checked.counts.commits + 1 < 2 ^ 64 }
-        ensures { OnOk result ((answer : AnswerFile) (auths : List Authenticator) (rest : List LogEntry)
-            → Walks (map numbers_of files.now) (period_of period.now) answer auths (entry_of entry.now ∷ rest) self.old
-            → Walks (map numbers_of files.now) (period_of period.now) answer auths rest self.new) }
+        judge: &J,
+        steps: &mut Steps<L>,
+    ) -> Result<Walked, Memory>
+        requires number { self.links.walk.seq < 2 ^ 63 }
+        requires sends { (n : ℕ) → n < 256 → slice_index self.checked.counts.sends n + 1 < 2 ^ 64 }
+        requires commits { self.checked.counts.commits + 1 < 2 ^ 64 }
+        requires knows { AreKnown (λ i r. J.knows judge.now i r ≡ true) (files_in promises.now) }
+        requires few { AreFew (files_in promises.now) }
+        ensures walks { IfOk result (λ new. (answer : AnswerFile) (auths : List Authenticator) (before : ℕ)
+            (rest : List LogEntry) → Walks (map numbers_of files.now) (files_in promises.now) (J.truth judge.now)
+            (period_of period.now) answer auths before steps.old (entry_of entry.now ∷ rest) self
+            → Walks (map numbers_of files.now) (files_in promises.now) (J.truth judge.now)
+            (period_of period.now) answer auths before steps.new rest new) }
+        ensures counted { (answer : AnswerFile) (auths : List Authenticator) (before : ℕ) (rest : List LogEntry)
+            → Walks (map numbers_of files.now) (files_in promises.now) (J.truth judge.now)
+            (period_of period.now) answer auths before steps.old (entry_of entry.now ∷ rest) self
+            → steps.new ≤ before + most_asked (files_in promises.now) nothing_before (period_of period.now)
+            answer.entries }
     {
-        let seq = self.links.walk.next_seq();
-        self.links.take(entry)?;
-        self.force.take(period, files, entry);
-        self.checked.take(alloc, period, files, seq, entry)?;
-        Ok(())
+        let Walked {
+            mut links,
+            checked,
+            mut force,
+        } = self;
+        let seq = links.walk.next_seq();
+        let checked = checked.take(alloc, period, files, promises, seq, entry, judge, steps)?;
+        links.take(entry)?;
+        force.take(period, files, entry);
+        Ok(Walked {
+            links,
+            checked,
+            force,
+        })
     }
 }
 
 /// Walks over the entries of a whole answer. Each is looked at once, and none is kept.
-pub fn walk(
+pub fn walk<J: Judge<L>, L: Ledger>(
     alloc: Global,
     period: &Period,
     files: &[FileNumbers],
+    promises: &[File<'_>],
     answer: &Answer<'_>,
     auths: &Auths<'_>,
+    judge: &J,
+    steps: &mut Steps<L>,
 ) -> Result<Walked, Memory>
     requires first { answer.now.first ≡ 1 }
-    requires few { length answer.now.entries < 2 ^ 32 }
-    ensures { IfOk result (λ walked.
-        Walks (map numbers_of files.now) (period_of period.now) answer.now auths.now [] walked) }
+    requires short { length answer.now.entries < 2 ^ 32 }
+    requires knows { AreKnown (λ i r. J.knows judge.now i r ≡ true) (files_in promises.now) }
+    requires few { AreFew (files_in promises.now) }
+    ensures walks { IfOk result (λ walked. Walks (map numbers_of files.now) (files_in promises.now)
+        (J.truth judge.now) (period_of period.now) answer.now auths.now steps.old steps.new [] walked) }
+    ensures counted { steps.new ≤ steps.old
+        + most_asked (files_in promises.now) nothing_before (period_of period.now) answer.now.entries }
 {
-    let mut walked = Walked::new(alloc, answer, auths)?;
+    let mut walked = Walked::new(alloc, promises, answer, auths)?;
     for entry in answer.entries() {
-        walked.take(alloc, period, files, &entry)?;
+        walked = walked.take(alloc, period, files, promises, &entry, judge, steps)?;
     }
     Ok(walked)
 }

@@ -1,6 +1,6 @@
 -- What this crate's types stand for in the definitions.
 use Rattle.std.specs.Prelude.{◌≡◌, ℕ, List, Result, Ok, Err, option_map}
-use Rattle.nr_spec_report.specs.Outcome as outcome
+use Rattle.nr_spec_outcome.specs.Outcome as outcome
 use Rattle.nr_chain.specs.Views.{digest_bytes}
 use Rattle.nr_lamport.specs.declared.seed.Seed.{Seed}
 use Rattle.nr_spec_plans.specs.Disk as disk

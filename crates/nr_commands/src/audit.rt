@@ -1,13 +1,12 @@
 //! The command `audit`: what an answer shows of a network, and where it contradicts the authenticators that were handed
 //! in.
 
-ghost use Rattle.std.specs.Prelude.{◌≡◌, ◌∷◌, []};
-ghost use Rattle.nr_spec_report.specs.Outcome.{outcome};
+ghost use Rattle.std.specs.Prelude.{◌≡◌, ◌<◌, ◌≤◌, length};
 ghost use Rattle.nr_spec_program.specs.Promises.{audited_by};
-ghost use Rattle.nr_spec_program.specs.Command.{audit_plan, concluded};
+ghost use Rattle.nr_spec_program.specs.Command.{audit_plan, judged};
 ghost use Rattle.nr_evidence.specs.Views.{period_of};
 ghost use Rattle.nr_audit.specs.Views.{audited_of};
-ghost use Rattle.nr_commands.specs.Views.{Does, Judges, promise_file_of};
+ghost use Rattle.nr_commands.specs.Views.{Does, Judges as Settled, promise_file_of};
 ghost use Rattle.nr_requests.specs.Views.{audit_request_of};
 ghost use Rattle.nr_commands.specs.Endings.{ending_of};
 
@@ -22,11 +21,16 @@ use nr_audit::Audited;
 use nr_discipline::FileNumbers;
 use nr_ports::Files;
 use nr_requests::AuditRequest;
+use nr_rule_eval::Judges;
+use nr_steps::Steps;
 use std::alloc::Global;
+use std::marker::Brand;
+use std::sync::ledger::{Blank, Ledger};
 
 // What an audit goes by, of a promise file.
-fn audited_by(promise: &PromiseFile) -> Audited
-    ensures { audited_of result ≡ audited_by (promise_file_of promise.now) }
+fn audited_by<'a>(promise: &'a PromiseFile) -> Audited<'a>
+    ensures value { audited_of result ≡ audited_by (promise_file_of promise.now) }
+    ensures few { length promise.now.says.promises ≤ 256 }
 {
     let says = &promise.says;
     Audited {
@@ -36,11 +40,47 @@ fn audited_by(promise: &PromiseFile) -> Audited
             count: says.neighbours().len() as u16,
             delay: says.commit(),
         },
+        promises: says.promises(),
     }
 }
 
+// What an answer shows by a promise file, whose judge counts on a ledger of its own.
+#[tactic(auto, using(crate::proofs::Judging::one_known, crate::proofs::Judging::one_few))]
+fn judge_on<L: Ledger>(
+    alloc: Global,
+    request: &AuditRequest<'_>,
+    promise: &PromiseFile,
+    answer: &Answer<'_>,
+    auths: &Auths<'_>,
+    blank: Blank,
+) -> Result<Ending, Stop>
+    requires name { blank.name ≡ L.name }
+    requires parts { blank.parts ≡ L.parts }
+    requires some { 0 < L.parts }
+    ensures { Settled ending_of result (judged request.now.root.0 (promise_file_of promise.now) answer.now
+        (period_of request.now.period) auths.now) }
+{
+    if answer.first() != 1 {
+        return Err(Stop::Refused(Refusal::Refused(Fact::Form)));
+    }
+    let files = [audited_by(promise)];
+    let texts = [&promise.says];
+    let judge = Judges { typed: &texts };
+    let mut steps = Steps::<L>::new(blank);
+    let report = nr_audit::audit(
+        alloc,
+        &request.root,
+        &files,
+        answer,
+        auths,
+        &request.period,
+        &judge,
+        &mut steps,
+    )?;
+    Ok(report_ending(alloc, &files, &report, auths)?)
+}
+
 // What an answer shows by a promise file.
-#[tactic(auto, using(crate::proofs::Judging::form_refuses))]
 fn judge(
     alloc: Global,
     request: &AuditRequest<'_>,
@@ -48,15 +88,10 @@ fn judge(
     answer: &Answer<'_>,
     auths: &Auths<'_>,
 ) -> Result<Ending, Stop>
-    ensures { Judges ending_of result (concluded (outcome request.now.root.0
-        (audited_by (promise_file_of promise.now) ∷ []) answer.now (period_of request.now.period) auths.now)) }
+    ensures { Settled ending_of result (judged request.now.root.0 (promise_file_of promise.now) answer.now
+        (period_of request.now.period) auths.now) }
 {
-    if answer.first() != 1 {
-        return Err(Stop::Refused(Refusal::Refused(Fact::Form)));
-    }
-    let files = [audited_by(promise)];
-    let report = nr_audit::audit(alloc, &request.root, &files, answer, auths, &request.period)?;
-    Ok(report_ending(alloc, &report, auths)?)
+    judge_on::<Brand>(alloc, request, promise, answer, auths, Blank::new(1))
 }
 
 /// What the request gives: the report, or the first thing that stops it.

@@ -1,19 +1,26 @@
 //! The report of an audit, as it is printed.
 
-ghost use Rattle.std.specs.Prelude.{◌≡◌, ◌++◌, IfOk, OnOk, map};
+ghost use Rattle.std.specs.Prelude.{◌≡◌, ◌∷◌, [], ◌++◌, IfOk, OnOk, Some, map};
 ghost use Rattle.std.specs.List.{flat_map};
+ghost use Rattle.std.specs.Fmt.{decimal};
 ghost use Rattle.std.specs.String.{string_bytes};
-ghost use Rattle.nr_spec_history.specs.Lines.{conflict_line};
-ghost use Rattle.nr_spec_report.specs.Lines.{cause_word, wrong_line};
+ghost use Rattle.nr_spec_history.specs.Lines.{conflict_line, line};
+ghost use Rattle.nr_spec_promises.specs.Files.{promise_of};
+ghost use Rattle.nr_spec_promises.specs.Broken.{promise_at};
+ghost use Rattle.nr_spec_outcome.specs.Lines.{broken_line, cause_word, name_of, wrong_line};
+ghost use Rattle.nr_spec_outcome.specs.Outcome.{promise_file, promise_files};
 ghost use Rattle.nr_spec_program.specs.Command.{report_ending};
 ghost use Rattle.nr_answer.specs.Views.{auth_of};
-ghost use Rattle.nr_audit.specs.Views.{marked, report_of, wrong_of};
+ghost use Rattle.nr_audit.specs.Views.{audited_of, marked, report_of, wrong_of};
+ghost use Rattle.nr_runs.specs.Views.{run_of, runs_in};
 ghost use Rattle.nr_commands.specs.Endings.{Reports, ending_of};
 
 use crate::ending::Ending;
 use nr_answer::{Auth, Auths};
-use nr_audit::{Report, WrongEntry};
+use nr_audit::{Audited, Report, WrongEntry};
+use nr_bytes::{Memory, put_bytes};
 use nr_discipline::Cause;
+use nr_runs::Run;
 use std::alloc::{AllocError, Global};
 
 // The word for a cause.
@@ -77,11 +84,74 @@ fn add_wrong_lines(alloc: Global, text: &mut String, wrong: &[WrongEntry]) -> Re
     Ok(())
 }
 
-// The ending of a report with these lines: the one line `clean` where there are none.
-fn ending_with(alloc: Global, lines: String) -> Result<Ending, AllocError>
-    ensures { IfOk result (λ e. Reports (string_bytes lines) (ending_of e)) }
+// The name of a promise of a file.
+fn name_in<'a>(file: &Audited<'a>, promise: u16) -> &'a [u8]
+    ensures { result.now ≡ name_of (promise_of (Some (promise_file (audited_of file.now))) promise) }
 {
-    if lines.as_str().is_empty() {
+    match file.promises.get(usize::from(promise)) {
+        Some(promise) => promise.name.bytes(),
+        None => &[],
+    }
+}
+
+// The name of the promise that a run breaks.
+fn name_of<'a>(files: &[Audited<'a>], run: &Run) -> &'a [u8]
+    ensures { result.now ≡ name_of (promise_at (promise_files (map audited_of files.now)) (run_of run.now).key) }
+{
+    match files.get(usize::from(run.file)) {
+        Some(file) => name_in(file, run.promise),
+        None => &[],
+    }
+}
+
+fn span_text(alloc: Global, run: &Run) -> Result<String, AllocError>
+    ensures { IfOk result (λ text. string_bytes text ≡ line (decimal run.now.begin ∷ decimal run.now.end ∷ [])) }
+{
+    let begin = run.begin;
+    let end = run.end;
+    format!(in alloc; "{begin} {end}\n")
+}
+
+// Adds the line of a broken run.
+#[tactic(auto, using(crate::proofs::ReportLemmas::broken_parts))]
+fn put_broken(
+    alloc: Global,
+    out: &mut Vec<u8>,
+    files: &[Audited<'_>],
+    run: &Run,
+) -> Result<(), Memory>
+    ensures { OnOk result (out.new.items ≡ out.old.items
+        ++ broken_line (promise_files (map audited_of files.now)) (run_of run.now)) }
+{
+    put_bytes(out, b"broken ")?;
+    put_bytes(out, name_of(files, run))?;
+    put_bytes(out, b" ")?;
+    run.prefix.write(out)?;
+    put_bytes(out, b" ")?;
+    put_bytes(out, span_text(alloc, run)?.as_bytes())
+}
+
+// Adds one line for each broken run.
+fn add_broken_lines(
+    alloc: Global,
+    out: &mut Vec<u8>,
+    files: &[Audited<'_>],
+    runs: &[Run],
+) -> Result<(), Memory>
+    ensures { OnOk result (out.new.items ≡ out.old.items
+        ++ flat_map (broken_line (promise_files (map audited_of files.now))) (runs_in runs.now)) }
+{
+    for run in runs {
+        put_broken(alloc, out, files, run)?;
+    }
+    Ok(())
+}
+
+// The ending of a report with these lines: the one line `clean` where there are none.
+fn ending_with(alloc: Global, lines: Vec<u8>) -> Result<Ending, AllocError>
+    ensures { IfOk result (λ e. Reports lines.items (ending_of e)) }
+{
+    if lines.as_slice().is_empty() {
         return Ok(Ending {
             status: 0,
             text: String::from_str(alloc, "clean\n")?.into_bytes(),
@@ -89,19 +159,23 @@ fn ending_with(alloc: Global, lines: String) -> Result<Ending, AllocError>
     }
     Ok(Ending {
         status: 1,
-        text: lines.into_bytes(),
+        text: lines,
     })
 }
 
-/// How an audit ends that gave a report on these authenticators.
+/// How an audit by promise files ends that gave a report on these authenticators.
 pub fn report_ending(
     alloc: Global,
+    files: &[Audited<'_>],
     report: &Report,
     auths: &Auths<'_>,
-) -> Result<Ending, AllocError>
-    ensures { IfOk result (λ e. ending_of e ≡ report_ending (report_of auths.now report.now)) }
+) -> Result<Ending, Memory>
+    ensures { IfOk result (λ e. ending_of e
+        ≡ report_ending (promise_files (map audited_of files.now)) (report_of auths.now report.now)) }
 {
-    let mut lines = conflict_lines(alloc, &report.conflicts, auths)?;
-    add_wrong_lines(alloc, &mut lines, &report.wrong)?;
-    ending_with(alloc, lines)
+    let mut text = conflict_lines(alloc, &report.conflicts, auths)?;
+    add_wrong_lines(alloc, &mut text, &report.wrong)?;
+    let mut lines = text.into_bytes();
+    add_broken_lines(alloc, &mut lines, files, &report.broken)?;
+    Ok(ending_with(alloc, lines)?)
 }

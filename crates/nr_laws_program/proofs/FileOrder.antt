@@ -1,5 +1,5 @@
 -- What was done before a refusal.
-use Rattle.std.proofs.Common.{◌≡◌, ℕ, List, [], ◌∷◌, Option, Some, None, Result, Ok, Err, refl, sym, subst, inl, inr}
+use Rattle.std.proofs.Common.{◌≡◌, ℕ, List, Option, Some, None, Result, Ok, Err, refl, sym, subst, inl, inr}
 use Rattle.std.specs.Prelude.{nat_le}
 use Rattle.std.proofs.lemmas.Bool.{cases_Bool}
 use Rattle.nr_spec_plans.specs.Disk.{Disk, Tape}
@@ -12,11 +12,12 @@ use Rattle.nr_spec_plans.proofs.OrderLaws.{refused_by, refuses_followed, allows_
 use Rattle.nr_spec_log.specs.Authenticator.{auths_of}
 use Rattle.nr_spec_log.specs.Answer.{AnswerFile, answer_of}
 use Rattle.nr_spec_history.specs.KeyFiles.{seed_of}
-use Rattle.nr_spec_report.specs.Claims.{Report}
-use Rattle.nr_spec_report.specs.Outcome.{Fact, outcome}
+use Rattle.nr_spec_promises.specs.Files as files
+use Rattle.nr_spec_outcome.specs.Report.{Report}
+use Rattle.nr_spec_outcome.specs.Outcome.{Fact}
 use Rattle.nr_spec_commands.specs.Words.{AuditRequest, CheckRequest, KeygenRequest, Request, Audit, Check, Keygen, request_in}
-use Rattle.nr_spec_program.specs.Promises.{PromiseFile, promise_of, audited_by}
-use Rattle.nr_spec_program.specs.Command.{Input, PromiseInput, AnswerInput, AuthsInput, SeedInput, Work, Ending, Refusal, NoFile, Limit, Malformed, load, sized, well_formed, concluded, promise_plan, check_plan, audit_plan, key_plan, keygen_plan, plan_of, plan_in, plan_for, input_limit}
+use Rattle.nr_spec_program.specs.Promises.{PromiseFile, promise_of}
+use Rattle.nr_spec_program.specs.Command.{Input, PromiseInput, AnswerInput, AuthsInput, SeedInput, Work, Ending, Refusal, NoFile, Limit, Malformed, load, sized, well_formed, concluded, judged, promise_plan, check_plan, audit_plan, key_plan, keygen_plan, plan_of, plan_in, plan_for, input_limit}
 use Rattle.nr_spec_program.specs.Command as command
 use Rattle.nr_spec_program.specs.Running.{RunsTo}
 use Rattle.nr_spec_program.specs.Causes.{Permits}
@@ -36,9 +37,9 @@ formed_refuses : {A : Type 0} (P : Refusal → Type 0) (input : Input) (found : 
 formed_refuses P input (Ok value) malformed = tt
 formed_refuses P input (Err place) malformed = malformed place
 
-concluded_refuses : (P : Refusal → Type 0) (found : Result Report Fact) → ((fact : Fact) → P (command.Refused fact)) → Refuses P (concluded found)
-concluded_refuses P (Ok report) fact_has = tt
-concluded_refuses P (Err fact) fact_has = fact_has fact
+concluded_refuses : (P : Refusal → Type 0) (promises : List files.PromiseFile) (found : Result Report Fact) → ((fact : Fact) → P (command.Refused fact)) → Refuses P (concluded promises found)
+concluded_refuses P promises (Ok report) fact_has = tt
+concluded_refuses P promises (Err fact) fact_has = fact_has fact
 
 -- ---- each part of a plan by itself
 
@@ -58,9 +59,9 @@ formed_allows : {A : Type 0} (allowed : Refusal → Action → Type 0) (input : 
 formed_allows allowed input (Ok value) = tt
 formed_allows allowed input (Err place) = tt
 
-concluded_allows : (allowed : Refusal → Action → Type 0) (found : Result Report Fact) → Allows allowed (concluded found)
-concluded_allows allowed (Ok report) = tt
-concluded_allows allowed (Err fact) = tt
+concluded_allows : (allowed : Refusal → Action → Type 0) (promises : List files.PromiseFile) (found : Result Report Fact) → Allows allowed (concluded promises found)
+concluded_allows allowed promises (Ok report) = tt
+concluded_allows allowed promises (Err fact) = tt
 
 promise_allows : (allowed : Refusal → Action → Type 0) (name : List ℕ) → allowed (NoFile PromiseInput) (Ask name) → ((found : ℕ) → allowed (Limit PromiseInput found) (Ask name))
     → ((place : ℕ) → allowed (Malformed PromiseInput place) (Ask name)) → ((size place : ℕ) → allowed (Malformed PromiseInput place) (Read name size)) → Allows allowed (promise_plan name)
@@ -128,20 +129,20 @@ audit_allows q =
     (λ answer_bytes. allows_followed (Permits (Audit q)) _ _ (formed_allows (Permits (Audit q)) AnswerInput (answer_of answer_bytes)) (well_formed_each _ AnswerInput (answer_of answer_bytes))
     (λ answer. allows_followed (Permits (Audit q)) _ _ (load_allows (Permits (Audit q)) AuthsInput q.auths (inr (inr (inl refl))) (λ found. inr (inr (inl refl))))
     (load_each _ AuthsInput q.auths (record { ask = λ bytes. on_auths promise answer bytes _ (auths_asked q); read = λ size bytes. on_auths promise answer bytes _ (auths_read q size) }))
-    (λ auths_bytes. allows_followed (Permits (Audit q)) _ _ (formed_allows (Permits (Audit q)) AuthsInput (auths_of auths_bytes)) (well_formed_each _ AuthsInput (auths_of auths_bytes)) (λ auths. concluded_allows (Permits (Audit q)) _)))))
+    (λ auths_bytes. allows_followed (Permits (Audit q)) _ _ (formed_allows (Permits (Audit q)) AuthsInput (auths_of auths_bytes)) (well_formed_each _ AuthsInput (auths_of auths_bytes)) (λ auths. concluded_allows (Permits (Audit q)) _ _)))))
   where
     on_auths : (promise : PromiseFile) (answer : AnswerFile) (bytes : List ℕ) (P : Refusal → Type 0) → OfAuths P
-        → Refuses P (well_formed AuthsInput (auths_of bytes) >>= λ auths. Room (concluded (outcome q.root (audited_by promise ∷ []) answer q.period auths)))
-    on_auths promise answer bytes P of = refuses_followed P _ _ (formed_refuses P AuthsInput (auths_of bytes) of.malformed) (λ auths. concluded_refuses P _ of.fact)
+        → Refuses P (well_formed AuthsInput (auths_of bytes) >>= λ auths. Room (judged q.root promise answer q.period auths))
+    on_auths promise answer bytes P of = refuses_followed P _ _ (formed_refuses P AuthsInput (auths_of bytes) of.malformed) (λ auths. concluded_refuses P _ _ of.fact)
 
     on_content : (promise : PromiseFile) (bytes : List ℕ) (P : Refusal → Type 0) → OfContent P
-        → Refuses P (well_formed AnswerInput (answer_of bytes) >>= λ answer. load AuthsInput q.auths >>= λ auths_bytes. well_formed AuthsInput (auths_of auths_bytes) >>= λ auths. Room (concluded (outcome q.root (audited_by promise ∷ []) answer q.period auths)))
+        → Refuses P (well_formed AnswerInput (answer_of bytes) >>= λ answer. load AuthsInput q.auths >>= λ auths_bytes. well_formed AuthsInput (auths_of auths_bytes) >>= λ auths. Room (judged q.root promise answer q.period auths))
     on_content promise bytes P of =
         refuses_followed P _ _ (formed_refuses P AnswerInput (answer_of bytes) of.malformed)
         (λ answer. refuses_followed P _ _ (load_refuses P AuthsInput q.auths of.none of.limit) (λ auths_bytes. on_auths promise answer auths_bytes P of.later))
 
     on_answer : (promise : PromiseFile) (P : Refusal → Type 0) → OfAnswer P
-        → Refuses P (load AnswerInput q.answer >>= λ bytes. well_formed AnswerInput (answer_of bytes) >>= λ answer. load AuthsInput q.auths >>= λ auths_bytes. well_formed AuthsInput (auths_of auths_bytes) >>= λ auths. Room (concluded (outcome q.root (audited_by promise ∷ []) answer q.period auths)))
+        → Refuses P (load AnswerInput q.answer >>= λ bytes. well_formed AnswerInput (answer_of bytes) >>= λ answer. load AuthsInput q.auths >>= λ auths_bytes. well_formed AuthsInput (auths_of auths_bytes) >>= λ auths. Room (judged q.root promise answer q.period auths))
     on_answer promise P of = refuses_followed P _ _ (load_refuses P AnswerInput q.answer of.none of.limit) (λ bytes. on_content promise bytes P of.later)
 
 -- ---- the other requests

@@ -8,8 +8,10 @@ use Rattle.nr_spec_plans.proofs.PlanLaws.{each_followed, ends_followed}
 use Rattle.nr_spec_log.specs.Authenticator.{auths_of}
 use Rattle.nr_spec_log.specs.Answer.{answer_of}
 use Rattle.nr_spec_history.specs.KeyFiles.{seed_of}
-use Rattle.nr_spec_report.specs.Claims.{Claim, Report, claims_of}
-use Rattle.nr_spec_report.specs.Outcome.{Fact}
+use Rattle.nr_spec_report.specs.Claims.{Claim}
+use Rattle.nr_spec_outcome.specs.Report.{Report, claims_of}
+use Rattle.nr_spec_promises.specs.Files.{PromiseFile}
+use Rattle.nr_spec_outcome.specs.Outcome.{Fact}
 use Rattle.nr_spec_program.specs.Promises.{promise_of}
 use Rattle.nr_spec_commands.specs.Words.{AuditRequest, CheckRequest, KeygenRequest, Request, Audit, Check, Keygen}
 use Rattle.nr_spec_program.specs.Command.{Input, Work, Ending, Refusal, NoFile, Limit, Malformed, refusal_ending, load, sized, well_formed, concluded, promise_plan, check_plan, audit_plan, key_plan, keygen_plan, plan_of, input_limit, promise_ending, report_ending, report_status, key_ending}
@@ -36,9 +38,9 @@ pub well_formed_each : {A : Type 0} (kind : Action → Type 0) (input : Input) (
 well_formed_each kind input (Ok value) = tt
 well_formed_each kind input (Err place) = tt
 
-concluded_each : (kind : Action → Type 0) (found : Result Report Fact) → Each kind (concluded found)
-concluded_each kind (Ok report) = tt
-concluded_each kind (Err fact) = tt
+concluded_each : (kind : Action → Type 0) (promises : List PromiseFile) (found : Result Report Fact) → Each kind (concluded promises found)
+concluded_each kind promises (Ok report) = tt
+concluded_each kind promises (Err fact) = tt
 
 pub promise_each : (kind : Action → Type 0) (name : List ℕ) → KindReads kind name → Each kind (promise_plan name)
 unfolding promise_plan
@@ -55,7 +57,7 @@ audit_each kind q promise answer auths =
     each_followed kind _ _ (load_each kind _ q.answer answer) (λ answer_bytes.
     each_followed kind _ _ (well_formed_each kind _ (answer_of answer_bytes)) (λ answer.
     each_followed kind _ _ (load_each kind _ q.auths auths) (λ auths_bytes.
-    each_followed kind _ _ (well_formed_each kind _ (auths_of auths_bytes)) (λ auths. concluded_each kind _)))))
+    each_followed kind _ _ (well_formed_each kind _ (auths_of auths_bytes)) (λ auths. concluded_each kind _ _)))))
 
 pub key_each : (kind : Action → Type 0) (q : KeygenRequest) → KindReads kind q.seed → Each kind (key_plan q)
 unfolding key_plan
@@ -67,15 +69,16 @@ keygen_each kind q is cut write sync = each_followed kind (key_plan q) _ (key_ea
 
 -- ---- endings
 
-report_ends : (found : Result Report Fact) → Ends (λ e. (report : Report) × (e ≡ report_ending report)) (concluded found)
-report_ends (Ok report) = (report, refl)
-report_ends (Err fact) = tt
+report_ends : (promises : List PromiseFile) (found : Result Report Fact)
+    → Ends (λ e. (by : List PromiseFile) × (report : Report) × (e ≡ report_ending by report)) (concluded promises found)
+report_ends promises (Ok report) = (promises, report, refl)
+report_ends promises (Err fact) = tt
 
 pub request_ends : (request : Request) → Ends (EndOf request) (plan_of request)
 unfolding plan_of check_plan audit_plan keygen_plan
 request_ends (Check q) = ends_followed (EndOf (Check q)) _ _ (λ promise. ends_followed (EndOf (Check q)) want _ (λ room. (promise, refl)))
 request_ends (Audit q) =
-    ends_followed (EndOf (Audit q)) _ _ (λ promise. ends_followed (EndOf (Audit q)) _ _ (λ answer_bytes. ends_followed (EndOf (Audit q)) _ _ (λ answer. ends_followed (EndOf (Audit q)) _ _ (λ auths_bytes. ends_followed (EndOf (Audit q)) _ _ (λ auths. report_ends _)))))
+    ends_followed (EndOf (Audit q)) _ _ (λ promise. ends_followed (EndOf (Audit q)) _ _ (λ answer_bytes. ends_followed (EndOf (Audit q)) _ _ (λ answer. ends_followed (EndOf (Audit q)) _ _ (λ auths_bytes. ends_followed (EndOf (Audit q)) _ _ (λ auths. report_ends _ _)))))
 request_ends (Keygen q) = ends_followed (EndOf (Keygen q)) _ _ (λ key. ends_followed (EndOf (Keygen q)) want _ (λ room. ends_followed (EndOf (Keygen q)) _ _ (λ done. (key, refl))))
 
 -- the statuses of endings
@@ -83,13 +86,13 @@ claims_low : (claims : List Claim) → report_status claims ≤ 1
 claims_low [] = omega arith
 claims_low (first ∷ others) = omega arith
 
-report_low : (report : Report) → (report_ending report).status ≤ 1
+report_low : (promises : List PromiseFile) (report : Report) → (report_ending promises report).status ≤ 1
 unfolding report_ending
-report_low report = claims_low (claims_of report)
+report_low promises report = claims_low (claims_of report)
 
 pub ends_low : (request : Request) (e : Ending) → EndOf request e → e.status ≤ 1
 unfolding promise_ending key_ending
-ends_low (Audit q) e (report, is) = rw is (report_low report)
+ends_low (Audit q) e (promises, report, is) = rw is (report_low promises report)
 ends_low (Keygen q) e (key, is) = rw is (omega arith)
 ends_low (Check q) e (promise, is) = rw is (omega arith)
 

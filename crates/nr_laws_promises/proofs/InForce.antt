@@ -12,7 +12,7 @@ use Rattle.nr_spec_entry.specs.ContentReading.{content_of}
 use Rattle.nr_spec_routes.specs.LookBack.{last_of, later_or}
 use Rattle.nr_spec_counts.specs.Tallies.{Numbers, promise_in, tally_after}
 use Rattle.nr_spec_report.specs.Wrong.{Base, is_within}
-use Rattle.nr_spec_report.specs.Outcome.{digest_list, digests_in_force, digests_within, is_of_no_file, misfit, promised}
+use Rattle.nr_spec_outcome.specs.Outcome.{digest_list, digests_in_force, digests_within, is_of_no_file, misfit, promised}
 use Rattle.nr_spec_promises.specs.Files.{PromiseFile, digest_of, file_with, first_promised, force_or, has_digest, ruling}
 use Rattle.nr_spec_promises.specs.Moments.{Mark, entries_before, marks_after, moments, view_after}
 use Rattle.nr_spec_promises.proofs.Following.{follows}

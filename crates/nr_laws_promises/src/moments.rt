@@ -6,7 +6,7 @@ ghost use Rattle.nr_spec_log.specs.Chain.{LogEntry};
 ghost use Rattle.nr_spec_history.specs.Conflicts.{Period};
 ghost use Rattle.nr_spec_counts.specs.Tallies.{Numbers};
 ghost use Rattle.nr_spec_report.specs.Wrong.{Base};
-ghost use Rattle.nr_spec_report.specs.Outcome.{digests_in_force, misfit};
+ghost use Rattle.nr_spec_outcome.specs.Outcome.{digests_in_force, misfit};
 ghost use Rattle.nr_spec_promises.specs.Files.{PromiseFile, first_promised};
 ghost use Rattle.nr_spec_promises.specs.Moments.{Mark, entries_before, moments, view_after};
 ghost use Rattle.nr_laws_promises.specs.BrokenRows.{IsOneOf};

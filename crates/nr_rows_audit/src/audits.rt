@@ -1,5 +1,7 @@
 //! An audit of three entries.
 
+ghost use Rattle.std.specs.Prelude.{◌≡◌, ◌<◌};
+
 use crate::signing::put_auth;
 use nr_answer::{Answer, Auths};
 use nr_audit::{Audited, Refusal, Report, audit};
@@ -7,7 +9,11 @@ use nr_bytes::{put_bytes, put_u8, put_u32, put_u64};
 use nr_chain::{Digest, genesis, sha256};
 use nr_discipline::{Cause, FileNumbers};
 use nr_evidence::Period;
+use nr_rule_eval::Judges;
+use nr_steps::Steps;
 use std::alloc::Global;
+use std::marker::Brand;
+use std::sync::ledger::{Blank, Ledger};
 use std::test::Fail;
 
 const FILE: &[u8; 26] = b"network 64500; commit 60;\n";
@@ -52,7 +58,17 @@ fn auths_of(alloc: Global) -> Result<Vec<u8>, Fail> {
 }
 
 // What an audit up to a time answers, for a promise file of this AS.
-fn audited(alloc: Global, network: u32, to: u64) -> Result<Result<Report, Refusal>, Fail> {
+#[tactic(auto, using(crate::proofs::Known::none_known, crate::proofs::Known::none_few))]
+fn audited_on<L: Ledger>(
+    alloc: Global,
+    network: u32,
+    to: u64,
+    blank: Blank,
+) -> Result<Result<Report, Refusal>, Fail>
+    requires name { blank.name ≡ L.name }
+    requires parts { blank.parts ≡ L.parts }
+    requires some { 0 < L.parts }
+{
     let (bytes, root) = answer_of(alloc)?;
     let auths_bytes = auths_of(alloc)?;
     let answer = Answer::read(&bytes).ok().ok_or("an answer")?;
@@ -67,7 +83,10 @@ fn audited(alloc: Global, network: u32, to: u64) -> Result<Result<Report, Refusa
             count: 0,
             delay: 60,
         },
+        promises: &[],
     };
+    let judge = Judges { typed: &[] };
+    let mut steps = Steps::<L>::new(blank);
     Ok(audit(
         alloc,
         &root,
@@ -75,7 +94,14 @@ fn audited(alloc: Global, network: u32, to: u64) -> Result<Result<Report, Refusa
         &answer,
         &auths,
         &Period { from: 0, to },
+        &judge,
+        &mut steps,
     ))
+}
+
+// The same on a ledger of its own.
+fn audited(alloc: Global, network: u32, to: u64) -> Result<Result<Report, Refusal>, Fail> {
+    audited_on::<Brand>(alloc, network, to, Blank::new(1))
 }
 
 #[test]

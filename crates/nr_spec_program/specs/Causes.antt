@@ -1,7 +1,8 @@
 -- What a run's status and ending say of the words, of the counts of faults and of the files.
 use Rattle.std.specs.Prelude.{◌≡◌, ◌≢◌, ◌⊎◌, ℕ, ◌≤◌, false, List, [], ◌∷◌, Option, None, Some, Result, Ok, Err}
 use Rattle.nr_spec_history.specs.KeyFiles.{Key, key_file}
-use Rattle.nr_spec_report.specs.Claims.{Report}
+use Rattle.nr_spec_outcome.specs.Report.{Report}
+use Rattle.nr_spec_promises.specs.Files as files
 use Rattle.nr_spec_plans.specs.Disk.{Contents, Disk, Tape, Fault, Memory, Cuts, Writes, Syncs, more}
 use Rattle.nr_spec_plans.specs.Plans.{Action, Ask, Read, Cut, Write, Sync, Halt, Refused, Faulted, Runs}
 use Rattle.nr_spec_plans.specs.Laws.{IsAmong, IsRead, Unchanged, fault_in, outcome, reads_after, writes_after}
@@ -32,7 +33,7 @@ pub record NoneRose (old new : Disk) (before after : Tape) : Type 0 where
 
 -- the endings of a request that nothing stopped
 abbrev pub EndOf : Request → Ending → Type 0
-EndOf (Audit q) e = (report : Report) × (e ≡ report_ending report)
+EndOf (Audit q) e = (promises : List files.PromiseFile) × (report : Report) × (e ≡ report_ending promises report)
 EndOf (Keygen q) e = (key : Key) × (e ≡ key_ending key)
 EndOf (Check q) e = (promise : PromiseFile) × (e ≡ promise_ending promise)
 

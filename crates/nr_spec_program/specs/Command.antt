@@ -2,14 +2,18 @@
 use Rattle.std.specs.Prelude.{ℕ, nat_le, if◌then◌else◌, List, [], ◌∷◌, Option, None, Some, Result, Ok, Err, codes}
 use Rattle.std.specs.Fmt.{decimal}
 use Rattle.hex.specs.Hex.{encode_lower}
-use Rattle.nr_spec_log.specs.Authenticator.{auths_of}
-use Rattle.nr_spec_log.specs.Answer.{answer_of}
+use Rattle.nr_spec_log.specs.Authenticator.{Authenticator, auths_of}
+use Rattle.nr_spec_log.specs.Answer.{AnswerFile, answer_of}
+use Rattle.nr_spec_history.specs.Conflicts.{Period}
 use Rattle.nr_spec_history.specs.KeyFiles.{Key, seed_of, key_file, key_root}
 use Rattle.nr_rule_syntax.specs.Printing.{file_text}
 use Rattle.nr_spec_history.specs.Lines.{line}
-use Rattle.nr_spec_report.specs.Claims.{Claim, Report, claims_of}
-use Rattle.nr_spec_report.specs.Lines.{report_text}
-use Rattle.nr_spec_report.specs.Outcome.{Fact, Form, Network, Unsigned, Head, Short, Promise, outcome}
+use Rattle.nr_spec_report.specs.Claims.{Claim}
+use Rattle.nr_spec_outcome.specs.Report.{Report, claims_of}
+use Rattle.nr_spec_outcome.specs.Lines.{report_text}
+use Rattle.nr_spec_outcome.specs.Outcome.{Fact, Form, Network, Unsigned, Head, Short, Promise, outcome, promise_files}
+use Rattle.nr_spec_promises.specs.Files as files
+use Rattle.nr_spec_truth.specs.Truths.{meant}
 use Rattle.nr_spec_plans.specs.Disk.{Fault, ReadFault, WriteFault, Memory}
 use Rattle.nr_spec_plans.specs.Plans.{Plan, Done, Refuse, Room, act, want, Ask, Read, save, ◌>>=◌}
 use Rattle.nr_spec_program.specs.Promises.{PromiseFile, promise_of, audited_by}
@@ -110,8 +114,10 @@ abbrev pub report_status : List Claim → ℕ
 report_status [] = 0
 report_status (first ∷ others) = 1
 
-unfoldable pub report_ending : Report → Ending
-report_ending report = record { status = report_status (claims_of report); text = report_text report }
+-- the report by these promise files
+unfoldable pub report_ending : List files.PromiseFile → Report → Ending
+report_ending promises report =
+    record { status = report_status (claims_of report); text = report_text promises report }
 
 unfoldable pub key_ending : Key → Ending
 key_ending key = record { status = 0; text = line (codes "root" ∷ encode_lower (key_root key) ∷ []) }
@@ -120,10 +126,16 @@ key_ending key = record { status = 0; text = line (codes "root" ∷ encode_lower
 unfoldable pub promise_ending : PromiseFile → Ending
 promise_ending promise = record { status = 0; text = file_text promise.file }
 
--- the report, where no fact refuses the audit
-abbrev pub concluded : Result Report Fact → Work Ending
-concluded (Ok report) = Done (report_ending report)
-concluded (Err fact) = Refuse (Refused fact)
+-- the report by these promise files, where no fact refuses the audit
+abbrev pub concluded : List files.PromiseFile → Result Report Fact → Work Ending
+concluded promises (Ok report) = Done (report_ending promises report)
+concluded promises (Err fact) = Refuse (Refused fact)
+
+-- what an answer shows by a promise file, whose formulas are true where they hold
+abbrev pub judged : List ℕ → PromiseFile → AnswerFile → Period → List Authenticator → Work Ending
+judged root promise answer period auths =
+    concluded (promise_files (audited_by promise ∷ []))
+    (outcome root (audited_by promise ∷ []) (meant (promise.says ∷ [])) answer period auths)
 
 abbrev pub usage_ending : Ending
 usage_ending = record { status = 2; text = line (codes "usage" ∷ []) }
@@ -167,7 +179,7 @@ audit_plan q = do
   answer ← well_formed AnswerInput (answer_of answer_bytes)
   auths_bytes ← load AuthsInput q.auths
   auths ← well_formed AuthsInput (auths_of auths_bytes)
-  Room (concluded (outcome q.root (audited_by promise ∷ []) answer q.period auths))
+  Room (judged q.root promise answer q.period auths)
 
 -- the key that is asked for, by the seed file
 unfoldable pub key_plan : KeygenRequest → Work Key

@@ -6,7 +6,7 @@ use Rattle.nr_rule_syntax.specs.declared.tree.File.{File}
 use Rattle.nr_rule_syntax.specs.Reading.{file_of}
 use Rattle.nr_spec_typing.specs.Declarations.{TypedText, typed_text}
 use Rattle.nr_spec_counts.specs.Tallies.{Numbers}
-use Rattle.nr_spec_report.specs.Outcome.{Audited}
+use Rattle.nr_spec_outcome.specs.Outcome.{Audited}
 
 pub record PromiseFile : Type 0 where
   -- the SHA-256 of its text
@@ -30,4 +30,4 @@ numbers_in p = record { digest = p.digest; count = length p.says.neighbours; del
 
 -- what an audit goes by
 abbrev pub audited_by : PromiseFile → Audited
-audited_by p = record { network = p.says.network; numbers = numbers_in p }
+audited_by p = record { network = p.says.network; numbers = numbers_in p; promises = p.says.promises }

@@ -1,4 +1,2 @@
 pub mod Wrong
 pub mod Claims
-pub mod Outcome
-pub mod Lines

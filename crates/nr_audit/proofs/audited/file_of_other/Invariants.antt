@@ -1,6 +1,6 @@
 use Rattle.std.proofs.Common.{◌≡◌, drop}
 use Rattle.std.specs.Prelude.{map}
-use Rattle.nr_spec_report.specs.Outcome.{file_of_other}
+use Rattle.nr_spec_outcome.specs.Outcome.{file_of_other}
 use Rattle.nr_audit.specs.Views.{audited_of}
 use Rattle.nr_audit.proofs.audited.file_of_other.Given as goal
 

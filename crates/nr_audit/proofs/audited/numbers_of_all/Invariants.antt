@@ -1,6 +1,6 @@
 use Rattle.std.proofs.Common.{◌≡◌, ◌++◌, drop}
 use Rattle.std.specs.Prelude.{map}
-use Rattle.nr_spec_report.specs.Outcome.{numbers_of_all}
+use Rattle.nr_spec_outcome.specs.Outcome.{numbers_of_all}
 use Rattle.nr_discipline.specs.Views.{numbers_of}
 use Rattle.nr_audit.specs.Views.{audited_of}
 use Rattle.nr_audit.proofs.audited.numbers_of_all.Given as goal

@@ -1,6 +1,6 @@
 use Rattle.std.proofs.Common.{◌≡◌}
 use Rattle.std.specs.Prelude.{map}
-use Rattle.nr_spec_report.specs.Outcome.{is_of_no_file}
+use Rattle.nr_spec_outcome.specs.Outcome.{is_of_no_file}
 use Rattle.nr_discipline.specs.Views.{numbers_of}
 use Rattle.nr_audit.proofs.Files.{none_from}
 use Rattle.nr_audit.proofs.force.is_of_no_file.Given as goal

@@ -1,15 +1,31 @@
 use Rattle.std.specs.Prelude.{map}
 use Rattle.nr_discipline.specs.Views.{numbers_of}
 use Rattle.nr_evidence.specs.Views.{period_of}
-use Rattle.nr_audit.proofs.Walking.{room_commits, room_sends}
+use Rattle.nr_judging.specs.Views.{files_in}
+use Rattle.nr_audit.proofs.Walking.{few_asked, room_commits, room_number, room_sends}
 use Rattle.nr_audit.proofs.walk.walk.Goals as goal
 
+pub take-requires-clause-number : goal.take-requires-clause-number
+take-requires-clause-number g c =
+    room_number (map numbers_of c.args.files.now) (files_in c.args.promises.now) (g.J.Judge.truth c.args.judge.now) (period_of c.args.period.now) c.args.answer.now c.args.auths.now _ _ _ _ _
+    (rw c.in-Some.ensures.steps at c.loop-entry.invariant) c.requires.first c.requires.short
+
 pub take-requires-clause-sends : goal.take-requires-clause-sends
-take-requires-clause-sends c =
-    room_sends (map numbers_of c.args.files.now) (period_of c.args.period.now) c.args.answer.now c.args.auths.now _ _ _
-    (rw c.in-Some.ensures.steps at c.loop-entry.invariant.walks) c.loop-entry.invariant.few
+take-requires-clause-sends g c =
+    room_sends (map numbers_of c.args.files.now) (files_in c.args.promises.now) (g.J.Judge.truth c.args.judge.now) (period_of c.args.period.now) c.args.answer.now c.args.auths.now _ _ _ _ _
+    (rw c.in-Some.ensures.steps at c.loop-entry.invariant) c.requires.short
 
 pub take-requires-clause-commits : goal.take-requires-clause-commits
-take-requires-clause-commits c =
-    room_commits (map numbers_of c.args.files.now) (period_of c.args.period.now) c.args.answer.now c.args.auths.now _ _ _
-    (rw c.in-Some.ensures.steps at c.loop-entry.invariant.walks) c.loop-entry.invariant.few
+take-requires-clause-commits g c =
+    room_commits (map numbers_of c.args.files.now) (files_in c.args.promises.now) (g.J.Judge.truth c.args.judge.now) (period_of c.args.period.now) c.args.answer.now c.args.auths.now _ _ _ _ _
+    (rw c.in-Some.ensures.steps at c.loop-entry.invariant) c.requires.short
+
+pub returns-in_err-walked-2-clause-counted : goal.returns-in_err-walked-2-clause-counted
+returns-in_err-walked-2-clause-counted g c = c.take.ensures.counted c.args.answer.now c.args.auths.now c.args.steps.now _ (rw c.in-Some.ensures.steps at c.loop-entry.invariant)
+
+pub loop-entry-preserved : goal.loop-entry-preserved
+loop-entry-preserved g c = c.in_ok-walked-2.ensures.walks c.args.answer.now c.args.auths.now c.args.steps.now _ (rw c.in-Some.ensures.steps at c.loop-entry.invariant)
+
+pub returns-clause-counted : goal.returns-clause-counted
+returns-clause-counted g c =
+    few_asked (map numbers_of c.args.files.now) (files_in c.args.promises.now) (g.J.Judge.truth c.args.judge.now) (period_of c.args.period.now) c.args.answer.now c.args.auths.now _ _ _ _ c.loop-entry.invariant

@@ -2,7 +2,7 @@ use Rattle.std.proofs.Common.{◌≡◌, ◌++◌, drop}
 use Rattle.std.specs.Prelude.{map}
 use Rattle.std.specs.List.{flat_map}
 use Rattle.std.specs.String.{string_bytes}
-use Rattle.nr_spec_report.specs.Lines.{wrong_line}
+use Rattle.nr_spec_outcome.specs.Lines.{wrong_line}
 use Rattle.nr_audit.specs.Views.{wrong_of}
 use Rattle.nr_commands.proofs.report.add_wrong_lines.Given as goal
 

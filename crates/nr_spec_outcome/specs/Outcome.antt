@@ -9,13 +9,18 @@ use Rattle.nr_spec_history.specs.Conflicts.{Period, answer_value, conflicts_of, 
 use Rattle.nr_spec_entry.specs.ContentReading.{content_of}
 use Rattle.nr_spec_counts.specs.Tallies.{Numbers, promise_in, tally_after}
 use Rattle.nr_spec_counts.specs.Causes.{file_with}
+use Rattle.nr_spec_typing.specs.declared.text.Promise.{Promise as Promised}
+use Rattle.nr_spec_truth.specs.Truths.{Truth}
 use Rattle.nr_spec_report.specs.Wrong.{Base, is_within, nothing_before, wrong_entries}
-use Rattle.nr_spec_report.specs.Claims.{Report}
+use Rattle.nr_spec_promises.specs.Files.{PromiseFile}
+use Rattle.nr_spec_promises.specs.Found.{broken_runs}
+use Rattle.nr_spec_outcome.specs.Report.{Report}
 
--- an audited promise file: the AS whose promises it has, and its numbers
+-- an audited promise file: the AS whose promises it has, its numbers, and its promises
 pub record Audited : Type 0 where
   pub network : ℕ
   pub numbers : Numbers
+  pub promises : List Promised
 
 -- what an answer is refused for, with the values that show it
 pub data Fact : Type 0 where
@@ -45,6 +50,13 @@ network_fact asn files = option_map (λ f. Network asn f.network) (file_of_other
 
 abbrev pub numbers_of_all : List Audited → List Numbers
 numbers_of_all files = map (λ f. f.numbers) files
+
+-- a file by its digest and its promises
+abbrev pub promise_file : Audited → PromiseFile
+promise_file f = record { digest = f.numbers.digest; promises = f.promises }
+
+abbrev pub promise_files : List Audited → List PromiseFile
+promise_files files = map promise_file files
 
 abbrev pub digest_list : Option Numbers → List (List ℕ)
 digest_list None = []
@@ -91,24 +103,25 @@ refused_by None next = next
 abbrev pub holds_or : {A : Type 0} → Bool → Fact → Result A Fact → Result A Fact
 holds_or test fact next = if test then next else Err fact
 
-abbrev pub report_of : List ℕ → List Audited → Base → AnswerFile → Period → List Authenticator → Report
-report_of root files base answer period auths = record {
+abbrev pub report_of : List ℕ → List Audited → Truth → Base → AnswerFile → Period → List Authenticator → Report
+report_of root files truth base answer period auths = record {
   conflicts = conflicts_of root answer period auths;
   wrong = wrong_entries (numbers_of_all files) base period answer.first answer.entries;
+  broken = broken_runs (promise_files files) truth base period answer.entries;
 }
 
 -- the first fact that refuses an answer with a base, or the report
-unfoldable pub outcome_over : List ℕ → List Audited → Base → AnswerFile → Period → List Authenticator
+unfoldable pub outcome_over : List ℕ → List Audited → Truth → Base → AnswerFile → Period → List Authenticator
     → Result Report Fact
-outcome_over root files base answer period auths =
+outcome_over root files truth base answer period auths =
     refused_by (network_fact answer.asn files)
     (holds_or (is_signed root answer.head) Unsigned
     (holds_or (bytes_eq answer.head.hash (answer_value answer)) (Head answer.head.hash (answer_value answer))
     (holds_or (not (nat_le answer.head.time period.to)) (Short answer.head.time period.to)
     (refused_by (promise_fact (numbers_of_all files) (digests_in_force base period answer.entries))
-    (Ok (report_of root files base answer period auths))))))
+    (Ok (report_of root files truth base answer period auths))))))
 
 -- the same of a whole log
-unfoldable pub outcome : List ℕ → List Audited → AnswerFile → Period → List Authenticator → Result Report Fact
-outcome root files answer period auths =
-    holds_or (answer.first == 1) Form (outcome_over root files nothing_before answer period auths)
+unfoldable pub outcome : List ℕ → List Audited → Truth → AnswerFile → Period → List Authenticator → Result Report Fact
+outcome root files truth answer period auths =
+    holds_or (answer.first == 1) Form (outcome_over root files truth nothing_before answer period auths)
