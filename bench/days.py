@@ -9,6 +9,7 @@ import random
 import struct
 
 import history
+import judging
 import logs
 
 AS = 64500
@@ -20,10 +21,31 @@ CHECKPOINTS = 6 * 3600 * SECOND
 PROMISES = ("network %d;\ncommit %d;\n" % (AS, DELAY) + "".join(
     "neighbour n%d as %d at 192.0.2.%d;\n" % (n, 64501 + n, n + 1) for n in range(NEIGHBOURS))).encode()
 
+# The same neighbours, and promises of each construct of the language.
+JUDGED = PROMISES + b"""group some_of_them = n0, n1, n2;
+group others = n7;
+define low = 0.0.0.0/1 le 16, 128.0.0.0/2 le 8;
+promise nothing_to_n1 grace 0 { not sent(n1) }
+promise nothing_long grace 20 { sent(n0) or sent(n2) implies bits < 16 }
+promise named grace 60 at 10.0.0.0/8, 10.0.0.0/8, 11.0.0.0/16 { received(n0) and bits >= 0 or bits = 16 }
+promise by_one grace 0 { all n in some_of_them { sent(n) implies n is n0 or n is n2 } }
+promise from_one grace 10 { some n in some_of_them { received(n) } or some n in others { received(n) } }
+promise in_low grace 5 { all n in some_of_them { sent(n) implies prefix in low } }
+promise short grace 1 { all n in some_of_them { if r = sent(n) then length(r) <= 3 and first(r) != last(r) else true end } }
+promise clean grace 30 { if r = received(n0) then not r has 65000:17 and not r has 65000:200 else true end }
+promise own_way grace 15 {
+  all n in some_of_them { if r = received(n) then if s = sent(n) then first(s) = first(r) else bits <= 8 end else true end }
+}
+promise crossed grace 0 { if r = sent(n0) then r crosses asn(n0) and not r crosses asn(n2) else true end }
+promise valued grace 2 {
+  all n in some_of_them { if r = sent(n) then med(r) < 500 and pref(r) = 0 and origin(r) != 2 or hop(r) > 192.0.2.1 else true end }
+}
+"""
 
-def numbers():
-    """The numbers of the promise file."""
-    return logs.sha256(PROMISES), NEIGHBOURS, DELAY
+
+def numbers(text=PROMISES):
+    """The numbers of a promise file with these neighbours."""
+    return logs.sha256(text), NEIGHBOURS, DELAY
 
 
 def attribute(flags, kind, value):
@@ -137,8 +159,9 @@ def day(number, messages, standing):
     return made.end(DAY)
 
 
-def broken(number, count):
-    """A log of so many entries after its first, each of a kind, a neighbour and a content that may be a mistake."""
+def broken(number, count, text=PROMISES):
+    """A log of so many entries after its first, each of a kind, a neighbour and a content that may be a mistake. Its
+    promises are those of a text."""
     dice = random.Random(number)
     log = logs.Log(AS)
     known = history.Known()
@@ -149,7 +172,7 @@ def broken(number, count):
         known.take(time, kind, content)
 
     if dice.random() < 0.9:
-        add(history.PROMISE, logs.promise(PROMISES, NEIGHBOURS, DELAY))
+        add(history.PROMISE, logs.promise(text, NEIGHBOURS, DELAY))
     addresses = [dice.randrange(1 << 24, 224 << 24) >> 16 << 16 for _ in range(6)]
     for _ in range(count):
         time += dice.choice((0, 0, 1, SECOND, 10 * SECOND, 25 * SECOND))
@@ -178,7 +201,7 @@ def broken(number, count):
         elif kind == 6:
             add(kind, logs.sha256(known.body() + dice.choice((b"", b"", b"\0"))))
         elif kind == 7:
-            digest, names, delay = numbers()
+            digest, names, delay = numbers(text)
             add(kind, digest + struct.pack(">HI", dice.choice((names, names, 2)), dice.choice((delay, delay, 20))))
         else:
             add(kind, b"")
@@ -187,6 +210,7 @@ def broken(number, count):
     return log
 
 
-def report(log, begin, end):
-    """The lines of wrong entries that an audit of a log prints."""
-    return "".join("wrong %d %s\n" % found for found in history.wrong_entries([numbers()], log.entries, begin, end))
+def report(log, begin, end, text=PROMISES):
+    """The lines of wrong entries and of broken promises that an audit of a log prints."""
+    wrong = history.wrong_entries([numbers(text)], log.entries, begin, end)
+    return "".join("wrong %d %s\n" % found for found in wrong) + judging.report(text.decode(), log.entries, begin, end)
