@@ -85,16 +85,16 @@ def exchange(neighbour, raw):
 
 
 class Day:
-    """A log as the recorder's rules want it."""
+    """A log as the recorder's rules want it, of the network of a promise file."""
 
-    def __init__(self, number):
+    def __init__(self, number, text=PROMISES):
         self.dice = random.Random(number)
         self.log = logs.Log(AS)
         self.known = history.Known()
         self.bodies = []
         self.due = {}
         self.next_checkpoint = CHECKPOINTS
-        self.add(0, history.PROMISE, logs.promise(PROMISES, NEIGHBOURS, DELAY))
+        self.add(0, history.PROMISE, logs.promise(text, NEIGHBOURS, DELAY))
 
     def add(self, time, kind, content):
         """One entry more."""
@@ -135,9 +135,9 @@ class Day:
         return self
 
 
-def day(number, messages, standing):
+def day(number, messages, standing, text=PROMISES):
     """A day of so many messages, at whose end about so many routes stand."""
-    made = Day(number)
+    made = Day(number, text)
     dice = made.dice
     keys = set()
     while len(keys) < standing * 6 // 5:
