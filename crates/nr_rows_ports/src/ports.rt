@@ -2,26 +2,27 @@
 
 use nr_ports::{Files, MemFiles, MemSink, ReadFault, Sink, WriteFault, read_whole, write_all};
 use std::alloc::Global;
-use std::test::Fail;
 
-// Files with one file of six bytes, of which the call of this number fails.
-fn files(alloc: Global, failing: u64) -> Result<MemFiles, Fail> {
-    let mut files = MemFiles::new(alloc);
-    files.put("a", b"abcdef")?;
-    files.fail_call(failing)?;
-    Ok(files)
+// Places a file of six bytes, and lists the call that fails.
+fn prepare(files: &mut MemFiles, failing: u64) -> bool {
+    files.put("a", b"abcdef").is_ok() && files.fail_call(failing).is_ok()
 }
 
-// Whether each of five calls in turn failed.
-fn failed_calls(files: &mut MemFiles) -> [bool; 5] {
+// Whether of five calls in turn the one of this number fails, and no other.
+fn fails_once(files: &mut MemFiles, failing: u64) -> bool {
     let mut buffer = [b'.'; 4];
-    [
-        files.size("a").is_err(),
-        files.read_at("a", 1, &mut buffer).is_err(),
-        files.write_at("a", 0, b"gh").is_err(),
-        files.cut("a", 5).is_err(),
-        files.sync("a").is_err(),
-    ]
+    files.size("a").is_err() == (failing == 1)
+        && files.read_at("a", 1, &mut buffer).is_err() == (failing == 2)
+        && files.write_at("a", 0, b"gh").is_err() == (failing == 3)
+        && files.cut("a", 5).is_err() == (failing == 4)
+        && files.sync("a").is_err() == (failing == 5)
+}
+
+fn holds(files: &MemFiles, held: &[u8]) -> bool {
+    match files.bytes("a") {
+        Some(bytes) => bytes == held,
+        None => false,
+    }
 }
 
 // The call that fails, what the file has after all five, and how many calls that read and that write failed.
@@ -34,21 +35,25 @@ const CALLS: [(u64, &[u8], u64, u64); 6] = [
     (5, b"ghcde", 0, 1),
 ];
 
+fn fails_as_listed(
+    alloc: Global,
+    (failing, held, read_faults, write_faults): &(u64, &[u8], u64, u64),
+) -> bool {
+    let mut files = MemFiles::new(alloc);
+    prepare(&mut files, *failing)
+        && fails_once(&mut files, *failing)
+        && holds(&files, held)
+        && files.read_faults() == *read_faults
+        && files.write_faults() == *write_faults
+}
+
 #[test]
-fn a_listed_call_fails_and_no_other(rt: HostRuntime) -> Result<(), Fail> {
-    for (failing, held, read_faults, write_faults) in CALLS {
-        let mut files = files(rt.alloc(), failing)?;
-        for (number, failed) in (1u64..).zip(failed_calls(&mut files)) {
-            assert_eq!(rt; failed, number == failing, "{failing}");
-        }
-        assert_eq!(rt; files.bytes("a"), Some(held), "{failing}");
-        assert_eq!(rt;
-            (files.read_faults(), files.write_faults()),
-            (read_faults, write_faults),
-            "{failing}"
-        );
-    }
-    Ok(())
+fn a_listed_call_fails_and_no_other(rt: HostRuntime) {
+    let alloc = rt.alloc();
+    assert_eq!(rt;
+        CALLS.iter().position(|row| !fails_as_listed(alloc, row)),
+        None
+    );
 }
 
 // A place, how many bytes are read there, and what the buffer has then.
@@ -60,43 +65,67 @@ const READS: [(u64, usize, &[u8]); 5] = [
     (u64::MAX, 0, b"...."),
 ];
 
-#[test]
-fn reads_before_across_at_and_after_the_end(rt: HostRuntime) -> Result<(), Fail> {
-    let mut files = files(rt.alloc(), 0)?;
-    for (at, count, want) in READS {
-        let mut buffer = [b'.'; 4];
-        assert_eq!(rt; files.read_at("a", at, &mut buffer), Ok(count), "{at}");
-        assert_eq!(rt; buffer.as_slice(), want, "{at}");
+fn reads(files: &mut MemFiles, (at, count, want): &(u64, usize, &[u8])) -> bool {
+    let mut buffer = [b'.'; 4];
+    match files.read_at("a", *at, &mut buffer) {
+        Ok(read) => read == *count && buffer.as_slice() == *want,
+        Err(_) => false,
     }
-    assert_eq!(rt; (files.size("a"), files.size("b")), (Ok(Some(6)), Ok(None)));
-    Ok(())
+}
+
+fn has_size(files: &mut MemFiles) -> bool {
+    matches!(files.size("a"), Ok(Some(6))) && matches!(files.size("b"), Ok(None))
+}
+
+#[test]
+fn reads_before_across_at_and_after_the_end(rt: HostRuntime) {
+    let mut files = MemFiles::new(rt.alloc());
+    assert!(rt; prepare(&mut files, 0));
+    assert_eq!(rt; READS.iter().position(|row| !reads(&mut files, row)), None);
+    assert!(rt; has_size(&mut files));
 }
 
 // How many bytes are wanted, and those that are read.
 const WHOLES: [(u64, &[u8]); 4] = [(6, b"abcdef"), (9, b"abcdef"), (4, b"abcd"), (0, b"")];
 
-#[test]
-fn reads_a_whole_file(rt: HostRuntime) -> Result<(), Fail> {
-    for (len, want) in WHOLES {
-        let mut files = files(rt.alloc(), 0)?;
-        assert_eq!(rt;
-            read_whole(rt.alloc(), &mut files, "a", len)?.as_slice(),
-            want
-        );
+fn reads_whole(alloc: Global, (len, want): &(u64, &[u8])) -> bool {
+    let mut files = MemFiles::new(alloc);
+    let prepared = prepare(&mut files, 0);
+    match read_whole(alloc, &mut files, "a", *len) {
+        Ok(read) => prepared && read.as_slice() == *want,
+        Err(_) => false,
     }
-    let mut files = files(rt.alloc(), 1)?;
-    let failed = read_whole(rt.alloc(), &mut files, "a", 6).err();
-    assert_eq!(rt; failed, Some(ReadFault::Failed));
-    Ok(())
+}
+
+fn fails_to_read(alloc: Global) -> bool {
+    let mut files = MemFiles::new(alloc);
+    let prepared = prepare(&mut files, 1);
+    let failed = read_whole(alloc, &mut files, "a", 6);
+    prepared && matches!(failed, Err(ReadFault::Failed))
 }
 
 #[test]
-fn a_sink_takes_pieces_whole(rt: HostRuntime) -> Result<(), Fail> {
+fn reads_a_whole_file(rt: HostRuntime) {
+    let alloc = rt.alloc();
+    assert_eq!(rt;
+        WHOLES.iter().position(|row| !reads_whole(alloc, row)),
+        None
+    );
+    assert!(rt; fails_to_read(alloc));
+}
+
+// Whether the second of three pieces fails, and the others are taken whole.
+fn takes_pieces(sink: &mut MemSink) -> bool {
+    sink.fail_call(2).is_ok()
+        && matches!(sink.write(b"ab"), Ok(2))
+        && matches!(write_all(sink, b"cd"), Err(WriteFault::Failed))
+        && write_all(sink, b"ef").is_ok()
+        && sink.bytes() == b"abef".as_slice()
+        && sink.faults() == 1
+}
+
+#[test]
+fn a_sink_takes_pieces_whole(rt: HostRuntime) {
     let mut sink = MemSink::new(rt.alloc());
-    sink.fail_call(2)?;
-    assert_eq!(rt; sink.write(b"ab"), Ok(2));
-    assert_eq!(rt; write_all(&mut sink, b"cd"), Err(WriteFault::Failed));
-    assert_eq!(rt; write_all(&mut sink, b"ef"), Ok(()));
-    assert_eq!(rt; (sink.bytes(), sink.faults()), (b"abef".as_slice(), 1));
-    Ok(())
+    assert!(rt; takes_pieces(&mut sink));
 }
