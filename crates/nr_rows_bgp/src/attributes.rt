@@ -1,13 +1,13 @@
 //! Path attributes, and the questions on them.
 
 use hex::decode;
-use nr_attrs::Attrs;
+use nr_attrs::{Attrs, PathItem};
 use nr_bytes::Place;
-use std::test::Fail;
+use std::alloc::Global;
 
-// The answers to the questions that have a number for an answer, and whether the block is complete.
-fn numbers(attrs: &Attrs) -> ([u32; 7], bool) {
-    let numbers = [
+// The answers to the questions that have a number for an answer.
+fn numbers(attrs: &Attrs) -> [u32; 7] {
+    [
         attrs.origin(),
         attrs.next_hop(),
         attrs.med(),
@@ -15,13 +15,14 @@ fn numbers(attrs: &Attrs) -> ([u32; 7], bool) {
         attrs.path_len(),
         attrs.first_as(),
         attrs.last_as(),
-    ];
-    (numbers, attrs.complete())
+    ]
 }
 
 // A block, whether its numbers have four bytes, its origin, next hop, med, pref, length, first and last, and
 // whether it is complete.
-const BLOCKS: [(&str, bool, [u32; 7], bool); 9] = [
+type Block = (&'static str, bool, [u32; 7], bool);
+
+const BLOCKS: [Block; 9] = [
     // every attribute
     (
         "4001010040020602010000fbf4400304c00002028004040000000a400504000000c8c00804fde80001",
@@ -67,18 +68,34 @@ const BLOCKS: [(&str, bool, [u32; 7], bool); 9] = [
     ),
 ];
 
+fn has_numbers(block: &[u8], (_, as4, want, complete): &Block) -> bool {
+    match Attrs::read(block, *as4) {
+        Ok(attrs) => numbers(&attrs) == *want && attrs.complete() == *complete,
+        Err(_) => false,
+    }
+}
+
+fn is_block(alloc: Global, row: &Block) -> bool {
+    match decode(alloc, row.0) {
+        Ok(block) => has_numbers(&block, row),
+        Err(_) => false,
+    }
+}
+
 #[test]
-fn blocks(rt: HostRuntime) -> Result<(), Fail> {
-    for (text, as4, want, complete) in &BLOCKS {
-        let block = decode(rt.alloc(), text)?;
-        let attrs = Attrs::read(&block, *as4).ok().ok_or("a block")?;
-        assert_eq!(rt; numbers(&attrs), (*want, *complete), "{text}");
+fn blocks(rt: HostRuntime) -> Result<(), &'static str> {
+    for row in &BLOCKS {
+        if !is_block(rt.alloc(), row) {
+            return Err(row.0);
+        }
     }
     Ok(())
 }
 
 // A block, whether its numbers have four bytes, and the place of its first fault.
-const FAULTS: [(&str, bool, u64); 19] = [
+type Fault = (&'static str, bool, u64);
+
+const FAULTS: [Fault; 19] = [
     ("40", false, 0), // flags alone
     ("4001", false, 0), // no length
     ("400101", false, 0), // a value that isn't there
@@ -100,15 +117,22 @@ const FAULTS: [(&str, bool, u64); 19] = [
     ("4001010340", false, 3), // value before a later cut
 ];
 
+fn is_fault(alloc: Global, (text, as4, place): &Fault) -> bool {
+    match decode(alloc, text) {
+        Ok(block) => match Attrs::read(&block, *as4) {
+            Ok(_) => false,
+            Err(Place(at)) => at == *place,
+        },
+        Err(_) => false,
+    }
+}
+
 #[test]
-fn faults(rt: HostRuntime) -> Result<(), Fail> {
-    for (text, as4, place) in &FAULTS {
-        let block = decode(rt.alloc(), text)?;
-        assert_eq!(rt;
-            Attrs::read(&block, *as4).err(),
-            Some(Place(*place)),
-            "{text}"
-        );
+fn faults(rt: HostRuntime) -> Result<(), &'static str> {
+    for row in &FAULTS {
+        if !is_fault(rt.alloc(), row) {
+            return Err(row.0);
+        }
     }
     Ok(())
 }
@@ -116,27 +140,59 @@ fn faults(rt: HostRuntime) -> Result<(), Fail> {
 // Two COMMUNITIES, of which the first counts, and a path of three segments.
 const LISTS: &str = "c0080800010001fde80001c008040002000240020e030100090202000100020401fbf4";
 
-#[test]
-fn communities_and_paths(rt: HostRuntime) -> Result<(), Fail> {
-    let block = decode(rt.alloc(), LISTS)?;
-    let attrs = Attrs::read(&block, false).ok().ok_or("a block")?;
-    for (community, has) in [
-        (0x0001_0001, true),
-        (0xfde8_0001, true),
-        (0x0002_0002, false),
-    ] {
-        assert_eq!(rt; attrs.has(community), has, "{community}");
+const COMMUNITIES: [(u32, bool); 3] = [
+    (0x0001_0001, true),
+    (0xfde8_0001, true),
+    (0x0002_0002, false),
+];
+
+fn wrong_community(attrs: &Attrs) -> Option<u32> {
+    for (community, has) in COMMUNITIES {
+        if attrs.has(community) != has {
+            return Some(community);
+        }
     }
-    for (asn, crosses) in [(9, true), (2, true), (64500, true), (8, false)] {
-        assert_eq!(rt; attrs.crosses(asn), crosses, "{asn}");
+    None
+}
+
+const CROSSED: [(u32, bool); 4] = [(9, true), (2, true), (64500, true), (8, false)];
+
+fn wrong_crossing(attrs: &Attrs) -> Option<u32> {
+    for (asn, crosses) in CROSSED {
+        if attrs.crosses(asn) != crosses {
+            return Some(asn);
+        }
     }
+    None
+}
+
+fn is_item(next: &Option<PathItem>, segment: u8, starts: bool, asn: u32) -> bool {
+    match next {
+        Some(item) => item.segment == segment && item.starts == starts && item.asn == asn,
+        None => false,
+    }
+}
+
+const PATH: [(u8, bool, u32); 4] = [(3, true, 9), (2, true, 1), (2, false, 2), (4, true, 64500)];
+
+fn wrong_item(attrs: &Attrs) -> Option<u32> {
     let mut path = attrs.path();
-    for want in [(3, true, 9), (2, true, 1), (2, false, 2), (4, true, 64500)] {
-        let got = path
-            .next()
-            .map(|item| (item.segment, item.starts, item.asn));
-        assert_eq!(rt; got, Some(want));
+    for (segment, starts, asn) in PATH {
+        if !is_item(&path.next(), segment, starts, asn) {
+            return Some(asn);
+        }
     }
-    assert_eq!(rt; path.next(), None);
-    Ok(())
+    match path.next() {
+        Some(more) => Some(more.asn),
+        None => None,
+    }
+}
+
+#[test]
+fn communities_and_paths(rt: HostRuntime) {
+    let block = decode(rt.alloc(), LISTS).expect(&rt, "hexadecimal digits");
+    let attrs = Attrs::read(&block, false).expect(&rt, "a block");
+    assert_eq!(rt; wrong_community(&attrs), None);
+    assert_eq!(rt; wrong_crossing(&attrs), None);
+    assert_eq!(rt; wrong_item(&attrs), None);
 }

@@ -1,17 +1,22 @@
 //! BGP messages, read and written.
 
 use hex::decode;
-use nr_bgp::{Message, WriteError, read, write_keepalive, write_update};
-use nr_bytes::Place;
+use nr_bgp::{Message, Update, WriteError, read, write_keepalive, write_update};
+use nr_bytes::{Place, put_bytes};
 use nr_prefix::Prefix;
 use std::alloc::Global;
-use std::test::Fail;
 
-// The bytes of a message with this text after its marker.
-fn marked(alloc: Global, text: &str) -> Result<Vec<u8>, Fail> {
-    let mut raw = vec![in alloc; 0xff; 16]?;
-    raw.extend_from_slice(&decode(alloc, text)?)?;
-    Ok(raw)
+// The bytes that the text spells, after those that are there.
+fn put_hex(alloc: Global, raw: &mut Vec<u8>, text: &str) -> bool {
+    match decode(alloc, text) {
+        Ok(bytes) => put_bytes(raw, &bytes).is_ok(),
+        Err(_) => false,
+    }
+}
+
+// Adds the bytes of a message with this text after its marker.
+fn put_marked(alloc: Global, raw: &mut Vec<u8>, text: &str) -> bool {
+    put_bytes(raw, &[0xff; 16]).is_ok() && put_hex(alloc, raw, text)
 }
 
 // What a message is, and the place of its fault, if it has one.
@@ -71,36 +76,68 @@ const MARKERS: [&str; 3] = [
     "fffffffffffffffffffffffffffffffe001304", // a marker byte of 254
 ];
 
+fn is_of_kind(raw: &[u8], kind: &str, place: u64) -> bool {
+    let (got, at) = kind_of(raw);
+    got == kind && at == place
+}
+
+fn is_message(alloc: Global, (text, kind, place): &(&str, &str, u64)) -> bool {
+    let mut raw = Vec::new(alloc);
+    put_marked(alloc, &mut raw, text) && is_of_kind(&raw, kind, *place)
+}
+
+fn is_bad_marker(alloc: Global, text: &str) -> bool {
+    let mut raw = Vec::new(alloc);
+    put_hex(alloc, &mut raw, text) && is_of_kind(&raw, "bad", 0)
+}
+
 #[test]
-fn messages(rt: HostRuntime) -> Result<(), Fail> {
-    for (text, kind, place) in &MESSAGES {
-        let raw = marked(rt.alloc(), text)?;
-        assert_eq!(rt; kind_of(&raw), (*kind, *place), "{text}");
-    }
-    for text in &MARKERS {
-        let raw = decode(rt.alloc(), text)?;
-        assert_eq!(rt; kind_of(&raw), ("bad", 0), "{text}");
+fn messages(rt: HostRuntime) -> Result<(), &'static str> {
+    for row in &MESSAGES {
+        if !is_message(rt.alloc(), row) {
+            return Err(row.0);
+        }
     }
     Ok(())
 }
 
-fn pair_of(p: Option<Prefix>) -> Option<(u32, u8)> {
-    p.map(|p| (p.addr(), p.len()))
+#[test]
+fn markers(rt: HostRuntime) -> Result<(), &'static str> {
+    for text in &MARKERS {
+        if !is_bad_marker(rt.alloc(), text) {
+            return Err(text);
+        }
+    }
+    Ok(())
+}
+
+fn is_prefix(got: Option<Prefix>, want: Option<(u32, u8)>) -> bool {
+    match (got, want) {
+        (Some(p), Some((addr, len))) => p.addr() == addr && p.len() == len,
+        (None, None) => true,
+        _ => false,
+    }
 }
 
 // The first two withdrawn prefixes and the first two announced ones, each as its address and length.
-fn prefixes_of(raw: &[u8]) -> Option<[Option<(u32, u8)>; 4]> {
-    let Message::Update(update) = read(raw, true) else {
-        return None;
-    };
+type Firsts = [Option<(u32, u8)>; 4];
+
+fn has_prefixes(update: &Update<'_>, [first, second, third, fourth]: &Firsts) -> bool {
     let mut withdrawn = update.withdrawn();
     let mut announced = update.announced();
-    Some([
-        pair_of(withdrawn.next()),
-        pair_of(withdrawn.next()),
-        pair_of(announced.next()),
-        pair_of(announced.next()),
-    ])
+    is_prefix(withdrawn.next(), *first)
+        && is_prefix(withdrawn.next(), *second)
+        && is_prefix(announced.next(), *third)
+        && is_prefix(announced.next(), *fourth)
+}
+
+fn is_update(alloc: Global, (text, want): &(&str, Firsts)) -> bool {
+    let mut raw = Vec::new(alloc);
+    put_marked(alloc, &mut raw, text)
+        && match read(&raw, true) {
+            Message::Update(update) => has_prefixes(&update, want),
+            _ => false,
+        }
 }
 
 // An UPDATE that withdraws and announces 10.1.0.0/16, after its marker, and its attributes.
@@ -109,7 +146,7 @@ const BOTH: &str = "0031020003100a0100144001010040020602010000fbf4400304c0000202
 const BLOCK: &str = "4001010040020602010000fbf4400304c0000202";
 
 // An UPDATE after its marker, and its prefixes.
-const UPDATES: [(&str, [Option<(u32, u8)>; 4]); 4] = [
+const UPDATES: [(&str, Firsts); 4] = [
     (
         "0019020002080a0000",
         [Some((0x0a00_0000, 8)), None, None, None],
@@ -126,26 +163,42 @@ const UPDATES: [(&str, [Option<(u32, u8)>; 4]); 4] = [
 ];
 
 #[test]
-fn updates(rt: HostRuntime) -> Result<(), Fail> {
-    for (text, want) in &UPDATES {
-        let raw = marked(rt.alloc(), text)?;
-        assert_eq!(rt; prefixes_of(&raw), Some(*want), "{text}");
+fn updates(rt: HostRuntime) -> Result<(), &'static str> {
+    for row in &UPDATES {
+        if !is_update(rt.alloc(), row) {
+            return Err(row.0);
+        }
     }
     Ok(())
 }
 
+// Whether these are the bytes of a message with this text after its marker.
+fn are_marked(alloc: Global, bytes: &[u8], text: &str) -> bool {
+    let mut raw = Vec::new(alloc);
+    put_marked(alloc, &mut raw, text) && raw.as_slice() == bytes
+}
+
+fn writes_keepalive(alloc: Global) -> bool {
+    match write_keepalive(alloc) {
+        Ok(raw) => are_marked(alloc, &raw, "001304"),
+        Err(_) => false,
+    }
+}
+
+fn writes_both(alloc: Global, p: Prefix, block: &[u8]) -> bool {
+    match write_update(alloc, &[p], block, &[p]) {
+        Ok(raw) => are_marked(alloc, &raw, BOTH),
+        Err(_) => false,
+    }
+}
+
 #[test]
-fn written_messages(rt: HostRuntime) -> Result<(), Fail> {
-    let alloc = rt.alloc();
-    let keepalive = write_keepalive(alloc).ok().ok_or("memory")?;
-    assert_eq!(rt; keepalive.as_slice(), marked(alloc, "001304")?.as_slice());
-    let p = Prefix::new(0x0a01_0000, 16).ok_or("a prefix")?;
-    let block = decode(alloc, BLOCK)?;
-    let update = write_update(alloc, &[p], &block, &[p])
-        .ok()
-        .ok_or("memory")?;
-    assert_eq!(rt; update.as_slice(), marked(alloc, BOTH)?.as_slice());
-    Ok(())
+fn written_messages(rt: HostRuntime) {
+    let mut block = Vec::new(rt.alloc());
+    let p = Prefix::new(0x0a01_0000, 16).expect(&rt, "a prefix");
+    assert!(rt; writes_keepalive(rt.alloc()));
+    assert!(rt; put_hex(rt.alloc(), &mut block, BLOCK));
+    assert!(rt; writes_both(rt.alloc(), p, &block));
 }
 
 // The length of an UPDATE with an attribute block of so many bytes, or the error.
@@ -158,9 +211,11 @@ fn length_with(alloc: Global, block: usize) -> Result<usize, WriteError> {
 
 #[test]
 fn the_longest_update(rt: HostRuntime) {
-    assert_eq!(rt; length_with(rt.alloc(), 65_512), Ok(65_535));
-    assert_eq!(rt;
-        length_with(rt.alloc(), 65_513),
-        Err(WriteError::TooLong(65_536))
+    assert!(rt; matches!(length_with(rt.alloc(), 65_512), Ok(65_535)));
+    assert!(rt;
+        matches!(
+            length_with(rt.alloc(), 65_513),
+            Err(WriteError::TooLong(65_536))
+        )
     );
 }

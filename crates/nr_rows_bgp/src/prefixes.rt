@@ -1,7 +1,6 @@
 //! Prefixes and their sets.
 
 use nr_prefix::{Pattern, Prefix, PrefixSet};
-use std::test::Fail;
 
 // A text, and the address and length that it says, if it is a prefix.
 const TEXTS: [(&str, Option<(u32, u8)>); 14] = [
@@ -21,16 +20,28 @@ const TEXTS: [(&str, Option<(u32, u8)>); 14] = [
     ("-1.0.0.0/8", None),
 ];
 
-#[test]
-fn texts(rt: HostRuntime) {
-    for (text, want) in &TEXTS {
-        let got = Prefix::parse(text.as_bytes()).map(|p| (p.addr(), p.len()));
-        assert_eq!(rt; got, *want, "{text}");
+fn is_text((text, want): &(&str, Option<(u32, u8)>)) -> bool {
+    match (Prefix::parse(text.as_bytes()), want) {
+        (Some(p), Some((addr, len))) => p.addr() == *addr && p.len() == *len,
+        (None, None) => true,
+        _ => false,
     }
 }
 
+#[test]
+fn texts() -> Result<(), &'static str> {
+    for row in &TEXTS {
+        if !is_text(row) {
+            return Err(row.0);
+        }
+    }
+    Ok(())
+}
+
 // Two prefixes, whether the first comes before the second, and whether it covers the second.
-const PAIRS: [((u32, u8), (u32, u8), bool, bool); 6] = [
+type Pair = ((u32, u8), (u32, u8), bool, bool);
+
+const PAIRS: [Pair; 6] = [
     ((0, 0), (0x0b00_0000, 8), true, true),
     ((0x0a00_0000, 8), (0x0a00_0000, 8), false, true),
     ((0x0a00_0000, 8), (0x0a00_0000, 9), true, true),
@@ -39,32 +50,52 @@ const PAIRS: [((u32, u8), (u32, u8), bool, bool); 6] = [
     ((0x0b00_0000, 8), (0x0a00_0000, 16), false, false),
 ];
 
-#[test]
-fn pairs(rt: HostRuntime) -> Result<(), Fail> {
-    for ((addr, len), (other_addr, other_len), before, covers) in PAIRS {
-        let p = Prefix::new(addr, len).ok_or("a prefix")?;
-        let other = Prefix::new(other_addr, other_len).ok_or("a prefix")?;
-        assert_eq!(rt;
-            (p < other, p.covers(&other)),
-            (before, covers),
-            "{addr} {len}"
-        );
+fn is_pair(((addr, len), (other_addr, other_len), before, covers): &Pair) -> bool {
+    match (
+        Prefix::new(*addr, *len),
+        Prefix::new(*other_addr, *other_len),
+    ) {
+        (Some(p), Some(other)) => (p < other) == *before && p.covers(&other) == *covers,
+        _ => false,
     }
-    Ok(())
 }
 
 #[test]
-fn a_set_and_a_written_prefix(rt: HostRuntime) -> Result<(), Fail> {
-    let prefix = Prefix::new(0xcb00_71ff, 24).ok_or("a prefix")?;
-    let mut patterns = Vec::new(rt.alloc());
-    patterns.push(Pattern { prefix, most: 25 })?;
-    let set = PrefixSet { patterns };
-    for (len, is_in) in [(23, false), (24, true), (25, true), (26, false)] {
-        let p = Prefix::new(0xcb00_7100, len).ok_or("a prefix")?;
-        assert_eq!(rt; set.contains(&p), is_in, "{len}");
+fn pairs(rt: HostRuntime) {
+    assert_eq!(rt; PAIRS.iter().position(|row| !is_pair(row)), None);
+}
+
+const LENGTHS: [(u8, bool); 4] = [(23, false), (24, true), (25, true), (26, false)];
+
+// Whether the set has the prefix of this length, or not.
+fn is_as_listed(set: &PrefixSet, (len, is_in): (u8, bool)) -> bool {
+    match Prefix::new(0xcb00_7100, len) {
+        Some(p) => set.contains(&p) == is_in,
+        None => false,
     }
+}
+
+fn wrong_length(set: &PrefixSet) -> Option<u8> {
+    for row in LENGTHS {
+        if !is_as_listed(set, row) {
+            return Some(row.0);
+        }
+    }
+    None
+}
+
+#[test]
+fn a_set(rt: HostRuntime) {
+    let prefix = Prefix::new(0xcb00_71ff, 24).expect(&rt, "a prefix");
+    let mut patterns = Vec::new(rt.alloc());
+    assert!(rt; patterns.push(Pattern { prefix, most: 25 }).is_ok());
+    assert_eq!(rt; wrong_length(&PrefixSet { patterns }), None);
+}
+
+#[test]
+fn a_written_prefix(rt: HostRuntime) {
+    let prefix = Prefix::new(0xcb00_71ff, 24).expect(&rt, "a prefix");
     let mut out = Vec::new(rt.alloc());
-    prefix.write(&mut out)?;
-    assert_eq!(rt; out.as_slice(), b"203.0.113.0/24".as_slice());
-    Ok(())
+    assert!(rt; prefix.write(&mut out).is_ok());
+    assert!(rt; out.as_slice() == b"203.0.113.0/24".as_slice());
 }

@@ -1,9 +1,9 @@
 //! MRT records, read and written.
 
 use hex::decode;
-use nr_bytes::{Cursor, Place};
+use nr_bytes::{Cursor, Place, put_bytes};
 use nr_mrt::{MrtItem, next, write_message};
-use std::test::Fail;
+use std::alloc::Global;
 
 // What the next record is: of a message its time, its peer's AS and address, whether the router sent it, whether its
 // numbers have four bytes, and the message's length; of a change of state its time, the peer's AS and address, and the
@@ -64,7 +64,9 @@ const SENT: &str =
     "0000000a001100070000002b0000002a0000fbf50000fbf400000001c0000201c0000202ffffffffffffffffffffffffffffffff001304";
 
 // A record of AS 64501 at 192.0.2.1, what it is, and what it says.
-const RECORDS: [(&str, &str, [u64; 6]); 14] = [
+type Record = (&'static str, &'static str, [u64; 6]);
+
+const RECORDS: [Record; 14] = [
     // received, four bytes
     (
         "0000000a00100004000000270000fbf50000fbf400000001c0000201c0000202ffffffffffffffffffffffffffffffff001304",
@@ -121,13 +123,29 @@ const RECORDS: [(&str, &str, [u64; 6]); 14] = [
     ("", "end", [0; 6]),
 ];
 
+fn is_next(cursor: &mut Cursor, kind: &str, want: &[u64; 6]) -> bool {
+    let (got, numbers) = next_of(cursor);
+    got == kind && numbers == *want
+}
+
+fn is_record(file: &[u8], (_, kind, want): &Record) -> bool {
+    let mut cursor = Cursor::new(file);
+    is_next(&mut cursor, kind, want) && cursor.left() == 0
+}
+
+fn decodes_to_record(alloc: Global, row: &Record) -> bool {
+    match decode(alloc, row.0) {
+        Ok(file) => is_record(&file, row),
+        Err(_) => false,
+    }
+}
+
 #[test]
-fn records(rt: HostRuntime) -> Result<(), Fail> {
-    for (text, kind, want) in &RECORDS {
-        let file = decode(rt.alloc(), text)?;
-        let mut cursor = Cursor::new(&file);
-        assert_eq!(rt; next_of(&mut cursor), (*kind, *want), "{text}");
-        assert_eq!(rt; cursor.left(), 0, "{text}");
+fn records(rt: HostRuntime) -> Result<(), &'static str> {
+    for row in &RECORDS {
+        if !decodes_to_record(rt.alloc(), row) {
+            return Err(row.0);
+        }
     }
     Ok(())
 }
@@ -155,17 +173,24 @@ const FAULTS: [(&str, u64); 13] = [
     ), // new state cut
 ];
 
+fn is_fault(file: &[u8], place: u64) -> bool {
+    let mut cursor = Cursor::new(file);
+    is_next(&mut cursor, "fault", &[place, 0, 0, 0, 0, 0]) && cursor.at() == 0
+}
+
+fn decodes_to_fault(alloc: Global, (text, place): &(&str, u64)) -> bool {
+    match decode(alloc, text) {
+        Ok(file) => is_fault(&file, *place),
+        Err(_) => false,
+    }
+}
+
 #[test]
-fn faults(rt: HostRuntime) -> Result<(), Fail> {
-    for (text, place) in &FAULTS {
-        let file = decode(rt.alloc(), text)?;
-        let mut cursor = Cursor::new(&file);
-        assert_eq!(rt;
-            next_of(&mut cursor),
-            ("fault", [*place, 0, 0, 0, 0, 0]),
-            "{text}"
-        );
-        assert_eq!(rt; cursor.at(), 0, "{text}");
+fn faults(rt: HostRuntime) -> Result<(), &'static str> {
+    for row in &FAULTS {
+        if !decodes_to_fault(rt.alloc(), row) {
+            return Err(row.0);
+        }
     }
     Ok(())
 }
@@ -174,32 +199,59 @@ fn faults(rt: HostRuntime) -> Result<(), Fail> {
 const MORE: &str =
     "0000000a000d000100000002aabb0000000a0010000000000014fbf5fbf400000001c0000201c0000202000100060000";
 
+fn write(file: &mut Vec<u8>, raw: &[u8]) -> bool {
+    raw.len() <= 65_535
+        && write_message(
+            file,
+            10_000_042,
+            64_501,
+            64_500,
+            0xc000_0201,
+            0xc000_0202,
+            true,
+            raw,
+        )
+        .is_ok()
+}
+
 #[test]
-fn a_written_record_and_others(rt: HostRuntime) -> Result<(), Fail> {
+fn a_written_record(rt: HostRuntime) {
+    let sent = decode(rt.alloc(), SENT).expect(&rt, "hexadecimal digits");
     let mut file = Vec::new(rt.alloc());
-    let sent = decode(rt.alloc(), SENT)?;
-    let raw = sent.get(36..).unwrap_or(&[]);
-    assert!(rt; raw.len() <= 65_535);
-    write_message(
-        &mut file,
-        10_000_042,
-        64_501,
-        64_500,
-        0xc000_0201,
-        0xc000_0202,
-        true,
-        raw,
-    )?;
-    assert_eq!(rt; file.as_slice(), sent.as_slice());
-    file.extend_from_slice(&decode(rt.alloc(), MORE)?)?;
-    let mut cursor = Cursor::new(&file);
-    for (kind, at) in [
-        ("message", 55),
-        ("skipped", 69),
-        ("state", 101),
-        ("fault", 101),
-    ] {
-        assert_eq!(rt; (next_of(&mut cursor).0, cursor.at()), (kind, at));
+    assert!(rt; write(&mut file, sent.get(36..).unwrap_or(&[])));
+    assert!(rt; file.as_slice() == sent.as_slice());
+}
+
+// What stands in a row of records, and where the cursor is after it.
+const KINDS: [(&str, u64); 4] = [
+    ("message", 55),
+    ("skipped", 69),
+    ("state", 101),
+    ("fault", 101),
+];
+
+fn wrong_kind(file: &[u8]) -> Option<&'static str> {
+    let mut cursor = Cursor::new(file);
+    for (kind, at) in KINDS {
+        let (got, _) = next_of(&mut cursor);
+        if got != kind || cursor.at() != at {
+            return Some(kind);
+        }
     }
-    Ok(())
+    None
+}
+
+fn put_hex(alloc: Global, file: &mut Vec<u8>, text: &str) -> bool {
+    match decode(alloc, text) {
+        Ok(bytes) => put_bytes(file, &bytes).is_ok(),
+        Err(_) => false,
+    }
+}
+
+#[test]
+fn records_in_a_row(rt: HostRuntime) {
+    let mut file = Vec::new(rt.alloc());
+    assert!(rt; put_hex(rt.alloc(), &mut file, SENT));
+    assert!(rt; put_hex(rt.alloc(), &mut file, MORE));
+    assert_eq!(rt; wrong_kind(&file), None);
 }
