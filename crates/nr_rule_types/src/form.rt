@@ -3,11 +3,10 @@
 ghost use Rattle.std.specs.Prelude.{◌≡◌, ◌+◌, ◌<◌, ◌≤◌, length, map, OnOk};
 ghost use Rattle.nr_rule_syntax.specs.Nesting.{depth};
 ghost use Rattle.nr_spec_typing.specs.declared.tree.Typing.TheVariants as typings;
-ghost use Rattle.nr_spec_typing.specs.Steps.{◌<$>◌};
 ghost use Rattle.nr_rule_types.specs.Depths.{deepest};
 ghost use Rattle.nr_spec_typing.specs.Scopes.{bind};
 ghost use Rattle.nr_spec_typing.specs.Forms as spec;
-ghost use Rattle.nr_rule_types.specs.Views.{Answers};
+ghost use Rattle.nr_rule_types.specs.Views.{Answers, AnswersBy};
 
 use crate::fault::TypeError;
 use crate::scope::Scope;
@@ -95,9 +94,8 @@ fn all(
     form: &Form,
 ) -> Result<Typing, TypeError>
     requires levels { length scope.old.variables + depth form.now < 64 }
-    ensures value { Answers result
-        ((λ x. typings.All (length scope.old.variables) x.0 x.1)
-        <$> spec.over_group var.now among.now (spec.typed form.now) scope.old) }
+    ensures value { AnswersBy (λ x. typings.All (length scope.old.variables) x.0 x.1) result
+        (spec.over_group var.now among.now (spec.typed form.now) scope.old) }
     ensures kept { OnOk result (scope.new ≡ scope.old) }
 {
     let depth = scope.depth();
@@ -119,9 +117,8 @@ fn some(
     form: &Form,
 ) -> Result<Typing, TypeError>
     requires levels { length scope.old.variables + depth form.now < 64 }
-    ensures value { Answers result
-        ((λ x. typings.Some (length scope.old.variables) x.0 x.1)
-        <$> spec.over_group var.now among.now (spec.typed form.now) scope.old) }
+    ensures value { AnswersBy (λ x. typings.Some (length scope.old.variables) x.0 x.1) result
+        (spec.over_group var.now among.now (spec.typed form.now) scope.old) }
     ensures kept { OnOk result (scope.new ≡ scope.old) }
 {
     let depth = scope.depth();

@@ -1,10 +1,9 @@
 //! Numbers, and the formulas that hold no formula.
 
 ghost use Rattle.nr_spec_typing.specs.declared.tree.Typing.TheVariants as typings;
-ghost use Rattle.nr_spec_typing.specs.Steps.{◌<$>◌};
 ghost use Rattle.nr_spec_typing.specs.Scopes as scopes;
 ghost use Rattle.nr_spec_typing.specs.Forms as spec;
-ghost use Rattle.nr_rule_types.specs.Views.{Answers};
+ghost use Rattle.nr_rule_types.specs.Views.{Answers, AnswersBy};
 
 use crate::fault::TypeError;
 use crate::scope::Scope;
@@ -31,7 +30,7 @@ pub fn value(scope: &Scope<'_, '_>, term: &Term) -> Result<Value, TypeError>
 
 /// `sent ( NAME )` or `received ( NAME )`
 pub fn stands(scope: &Scope<'_, '_>, side: Side, of: &Name) -> Result<Typing, TypeError>
-    ensures { Answers result (typings.Stands side <$> scopes.who scope.now of.now) }
+    ensures { AnswersBy (typings.Stands side) result (scopes.who scope.now of.now) }
 {
     Ok(Typing::Stands {
         side,
@@ -41,7 +40,7 @@ pub fn stands(scope: &Scope<'_, '_>, side: Side, of: &Name) -> Result<Typing, Ty
 
 /// `NAME has COMMUNITY`
 pub fn has(scope: &Scope<'_, '_>, var: &Name, community: u32) -> Result<Typing, TypeError>
-    ensures { Answers result ((λ n. typings.Has n community) <$> scopes.route scope.now var.now) }
+    ensures { AnswersBy (λ n. typings.Has n community) result (scopes.route scope.now var.now) }
 {
     Ok(Typing::Has {
         route: scope.route(var)?,
@@ -51,7 +50,7 @@ pub fn has(scope: &Scope<'_, '_>, var: &Name, community: u32) -> Result<Typing, 
 
 /// `prefix in NAME`
 pub fn in_set(scope: &Scope<'_, '_>, set: &Name) -> Result<Typing, TypeError>
-    ensures { Answers result (typings.PrefixIn <$> scopes.set scope.now set.now) }
+    ensures { AnswersBy typings.PrefixIn result (scopes.set scope.now set.now) }
 {
     Ok(Typing::PrefixIn {
         set: scope.set(set)?,
