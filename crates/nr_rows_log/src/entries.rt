@@ -6,7 +6,6 @@ use nr_chain::Entry;
 use nr_discipline::Counts;
 use nr_tables::{State, Touched};
 use std::alloc::Global;
-use std::test::Fail;
 
 // A time in microseconds, a kind, and a content.
 pub type Line = (u64, u8, &'static str);
@@ -36,29 +35,44 @@ pub const LOG: [Line; 4] = [
     (6_000_000, 5, "ffff00000000"),
 ];
 
-// Counts an entry more.
-fn count(counts: &mut Counts, entry: &Entry<'_>) -> Result<(), Fail> {
-    if !can_send(counts) || !can_commit(counts) {
-        return Err("too many".into());
+// Counts an entry more, where there is room for it.
+fn count(counts: &mut Counts, entry: &Entry<'_>) -> bool {
+    let fits = can_send(counts) && can_commit(counts);
+    if fits {
+        counts.step(entry);
     }
-    counts.step(entry);
-    Ok(())
+    fits
+}
+
+fn step(
+    alloc: Global,
+    state: State,
+    touched: &mut Touched,
+    (time, kind, text): Line,
+    counts: &mut Counts,
+) -> Option<State> {
+    let Ok(content) = decode(alloc, text) else {
+        return None;
+    };
+    let entry = Entry {
+        time,
+        kind,
+        content: &content,
+    };
+    if count(counts, &entry) {
+        state.step(&entry, touched).ok()
+    } else {
+        None
+    }
 }
 
 // What is known after the first entries of the log.
-pub fn after(alloc: Global, entries: &[Line]) -> Result<(State, Counts), Fail> {
+pub fn after(alloc: Global, entries: &[Line]) -> Option<(State, Counts)> {
     let mut state = State::new(alloc);
     let mut counts = Counts::new();
     let mut touched = Touched::new(alloc);
-    for (time, kind, text) in entries {
-        let content = decode(alloc, text)?;
-        let entry = Entry {
-            time: *time,
-            kind: *kind,
-            content: &content,
-        };
-        state = state.step(&entry, &mut touched).ok().ok_or("a state")?;
-        count(&mut counts, &entry)?;
+    for line in entries {
+        state = step(alloc, state, &mut touched, *line, &mut counts)?;
     }
-    Ok((state, counts))
+    Some((state, counts))
 }

@@ -7,49 +7,74 @@ use nr_chain::Entry;
 use nr_prefix::Prefix;
 use nr_tables::{Direction, State, Touched};
 use std::alloc::Global;
-use std::test::Fail;
 
 // 10.1.0.0/16 and 10.0.0.0/8.
 const LONG: (u32, u8) = (0x0a01_0000, 16);
 
 const SHORT: (u32, u8) = (0x0a00_0000, 8);
 
-fn prefix((addr, len): (u32, u8)) -> Result<Prefix, Fail> {
-    Ok(Prefix::new(addr, len).ok_or("a prefix")?)
+fn is_prefix(p: &Prefix, (addr, len): (u32, u8)) -> bool {
+    p.addr() == addr && p.len() == len
+}
+
+fn stands(state: &State, (addr, len): (u32, u8)) -> bool {
+    match Prefix::new(addr, len) {
+        Some(p) => state.stands(&p),
+        None => false,
+    }
+}
+
+// The length of the path of a route for 10.1.0.0/16.
+fn length(state: &State, direction: Direction, neighbour: u16) -> Option<u32> {
+    let p = Prefix::new(0x0a01_0000, 16)?;
+    match state.route(direction, neighbour, &p) {
+        Some(route) => Some(route.path_len()),
+        None => None,
+    }
 }
 
 #[test]
-fn a_prefix_that_is_withdrawn_and_announced_is_announced(rt: HostRuntime) -> Result<(), Fail> {
-    let (state, _counts) = after(rt.alloc(), &LOG)?;
-    let long = prefix(LONG)?;
-    assert!(rt; state.stands(&long));
-    assert!(rt; !state.stands(&prefix(SHORT)?));
-    let route = state.route(Direction::Received, 0, &long).ok_or("a route")?;
-    assert_eq!(rt; route.path_len(), 1);
-    assert!(rt; state.route(Direction::Sent, 1, &long).is_some());
-    assert!(rt; state.route(Direction::Sent, 0, &long).is_none());
-    Ok(())
+fn a_prefix_that_is_withdrawn_and_announced_is_announced(rt: HostRuntime) {
+    let (state, _counts) = after(rt.alloc(), &LOG).expect(&rt, "a log");
+    assert!(rt; stands(&state, LONG));
+    assert!(rt; !stands(&state, SHORT));
+    assert!(rt; matches!(length(&state, Direction::Received, 0), Some(1)));
+    assert!(rt; length(&state, Direction::Sent, 1).is_some());
+    assert!(rt; length(&state, Direction::Sent, 0).is_none());
 }
 
-#[test]
-fn rows_and_prefixes_are_listed(rt: HostRuntime) -> Result<(), Fail> {
-    let (state, _counts) = after(rt.alloc(), &LOG)?;
-    let long = prefix(LONG)?;
-    assert_eq!(rt; state.len(), 2);
+fn lists_a_row(state: &State) -> bool {
     let mut rows = state.rows();
-    let row = rows.next().ok_or("a row")?;
-    assert_eq!(rt;
-        (row.prefix, row.direction, row.neighbour),
-        (long, Direction::Received, 0)
-    );
+    match rows.next() {
+        Some(row) => {
+            is_prefix(&row.prefix, LONG)
+                && row.direction == Direction::Received
+                && row.neighbour == 0
+        }
+        None => false,
+    }
+}
+
+fn lists_a_prefix(state: &State) -> bool {
     let mut standing = state.prefixes();
-    assert_eq!(rt; standing.next(), Some(long));
-    assert_eq!(rt; standing.next(), None);
-    Ok(())
+    match standing.next() {
+        Some(p) => is_prefix(&p, LONG) && standing.next().is_none(),
+        None => false,
+    }
+}
+
+#[test]
+fn rows_and_prefixes_are_listed(rt: HostRuntime) {
+    let (state, _counts) = after(rt.alloc(), &LOG).expect(&rt, "a log");
+    assert!(rt; state.len() == 2);
+    assert!(rt; lists_a_row(&state));
+    assert!(rt; lists_a_prefix(&state));
 }
 
 // An entry, what it touches of 10.0.0.0/8 and 10.1.0.0/16 after the log, and how many rows it leaves.
-const STEPS: [(Line, &[(u32, u8)], usize); 6] = [
+type Step = (Line, &'static [(u32, u8)], usize);
+
+const STEPS: [Step; 6] = [
     ((7_000_000, 1, WITHDRAWN), &[SHORT], 2),
     ((7_000_000, 2, BAD), &[LONG], 1),
     ((7_000_000, 3, "000100060001"), &[LONG], 1), // the session leaves Established
@@ -58,50 +83,72 @@ const STEPS: [(Line, &[(u32, u8)], usize); 6] = [
     ((7_000_000, 2, RECEIVED), &[LONG], 2),
 ];
 
-// What an entry after the log touches, and how many rows it leaves.
-fn touches(alloc: Global, (time, kind, text): Line) -> Result<(Touched, usize), Fail> {
-    let (state, _counts) = after(alloc, &LOG)?;
-    let content = decode(alloc, text)?;
-    let mut touched = Touched::new(alloc);
-    let entry = Entry {
-        time,
-        kind,
-        content: &content,
-    };
-    let state = state.step(&entry, &mut touched).ok().ok_or("a state")?;
-    Ok((touched, state.len()))
-}
-
-#[test]
-fn an_entry_touches_what_it_names_or_empties(rt: HostRuntime) -> Result<(), Fail> {
-    for (line, want, left) in &STEPS {
-        let (touched, rows) = touches(rt.alloc(), *line)?;
-        assert_eq!(rt; rows, *left);
-        assert_eq!(rt; touched.items().len(), want.len());
-        for (got, want) in touched.items().iter().zip(*want) {
-            assert_eq!(rt; *got, prefix(*want)?);
+fn are(got: &[Prefix], want: &[(u32, u8)]) -> bool {
+    for (got, want) in got.iter().zip(want) {
+        if !is_prefix(got, *want) {
+            return false;
         }
     }
-    Ok(())
+    got.len() == want.len()
 }
 
-// No routes but one, of this block, sent to neighbour 3.
-fn inserted(alloc: Global, prefix: Prefix, block: &[u8]) -> Result<State, Fail> {
-    let attrs = Attrs::read(block, true).ok().ok_or("a block")?;
-    if attrs.block().len() > 65_535 {
-        return Err("too long".into());
+// Whether an entry after this state touches these prefixes, and leaves so many rows.
+fn steps(alloc: Global, state: State, entry: &Entry<'_>, (_, want, left): &Step) -> bool {
+    let mut touched = Touched::new(alloc);
+    match state.step(entry, &mut touched) {
+        Ok(state) => are(touched.items(), want) && state.len() == *left,
+        Err(_) => false,
     }
-    let state = State::new(alloc).insert(Direction::Sent, 3, prefix, &attrs);
-    Ok(state.ok().ok_or("a state")?)
+}
+
+fn touches(alloc: Global, row: &Step) -> bool {
+    let (time, kind, text) = row.0;
+    match (after(alloc, &LOG), decode(alloc, text)) {
+        (Some((state, _counts)), Ok(content)) => {
+            let entry = Entry {
+                time,
+                kind,
+                content: &content,
+            };
+            steps(alloc, state, &entry, row)
+        }
+        _ => false,
+    }
 }
 
 #[test]
-fn a_route_is_inserted(rt: HostRuntime) -> Result<(), Fail> {
-    let block = decode(rt.alloc(), "4001010040020602010000fbf4400304c0000202")?;
-    let short = prefix(SHORT)?;
-    let state = inserted(rt.alloc(), short, &block)?;
-    let route = state.route(Direction::Sent, 3, &short).ok_or("a route")?;
-    assert_eq!(rt; route.block(), block.as_slice());
-    assert_eq!(rt; state.len(), 1);
-    Ok(())
+fn an_entry_touches_what_it_names_or_empties(rt: HostRuntime) {
+    let alloc = rt.alloc();
+    assert_eq!(rt; STEPS.iter().position(|row| !touches(alloc, row)), None);
+}
+
+fn has_inserted(state: &State, p: &Prefix, block: &[u8]) -> bool {
+    match state.route(Direction::Sent, 3, p) {
+        Some(route) => route.block() == block && state.len() == 1,
+        None => false,
+    }
+}
+
+// Whether one route, of this block, sent to neighbour 3, is the one that is inserted.
+fn inserts(alloc: Global, p: Prefix, block: &[u8]) -> bool {
+    let Ok(attrs) = Attrs::read(block, true) else {
+        return false;
+    };
+    if attrs.block().len() > 65_535 {
+        return false;
+    }
+    match State::new(alloc).insert(Direction::Sent, 3, p, &attrs) {
+        Ok(state) => has_inserted(&state, &p, block),
+        Err(_) => false,
+    }
+}
+
+#[test]
+fn a_route_is_inserted(rt: HostRuntime) {
+    let block = decode(rt.alloc(), "4001010040020602010000fbf4400304c0000202").expect(
+        &rt,
+        "hexadecimal digits",
+    );
+    let p = Prefix::new(0x0a00_0000, 8).expect(&rt, "a prefix");
+    assert!(rt; inserts(rt.alloc(), p, &block));
 }
