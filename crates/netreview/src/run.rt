@@ -52,8 +52,8 @@ fn run_request<F: Files, S: Sink>(
     }
 }
 
-/// Runs the command that the words after the program's name ask for, and answers the status. An audit reads what
-/// the network promised, and judges none of it yet: it finds conflicts and wrong entries.
+/// Runs the command that the words after the program's name ask for, and answers the status. An audit finds the
+/// conflicts, the wrong entries and the broken promises of a whole log.
 #[tactic(auto, unfolding(nr_spec_plans::specs::Plans::Runs, nr_spec_plans::specs::Plans::followed_by))]
 pub fn run<F: Files, S: Sink>(alloc: Global, words: &[String], files: &mut F, out: &mut S) -> u8
     ensures { RunsTo (plan_for (map string_bytes words.now))

@@ -5,16 +5,18 @@ use Rattle.std.proofs.lemmas.Bool.{cases_Bool}
 use Rattle.nr_spec_plans.specs.Plans.{Done, Room, Refuse, Act, followed_by, ◌>>=◌, want, save, Action, Ask, Read, Cut, Write, Sync}
 use Rattle.nr_spec_plans.specs.Laws.{Each, Ends}
 use Rattle.nr_spec_plans.proofs.PlanLaws.{each_followed, ends_followed}
-use Rattle.nr_spec_log.specs.Authenticator.{auths_of}
-use Rattle.nr_spec_log.specs.Answer.{answer_of}
+use Rattle.nr_spec_log.specs.Authenticator.{Authenticator, auths_of}
+use Rattle.nr_spec_log.specs.Answer.{AnswerFile, answer_of}
 use Rattle.nr_spec_history.specs.KeyFiles.{seed_of}
 use Rattle.nr_spec_report.specs.Claims.{Claim}
 use Rattle.nr_spec_outcome.specs.Report.{Report, claims_of}
 use Rattle.nr_spec_promises.specs.Files.{PromiseFile}
-use Rattle.nr_spec_outcome.specs.Outcome.{Fact}
-use Rattle.nr_spec_program.specs.Promises.{promise_of}
+use Rattle.nr_spec_outcome.specs.Outcome.{Fact, outcome, promise_files}
+use Rattle.nr_spec_truth.specs.Truths.{meant}
+use Rattle.nr_spec_program.specs.Promises as program
+use Rattle.nr_spec_program.specs.Promises.{promise_of, audited_by}
 use Rattle.nr_spec_commands.specs.Words.{AuditRequest, CheckRequest, KeygenRequest, Request, Audit, Check, Keygen}
-use Rattle.nr_spec_program.specs.Command.{Input, Work, Ending, Refusal, NoFile, Limit, Malformed, refusal_ending, load, sized, well_formed, concluded, promise_plan, check_plan, audit_plan, key_plan, keygen_plan, plan_of, input_limit, promise_ending, report_ending, report_status, key_ending}
+use Rattle.nr_spec_program.specs.Command.{Input, Work, Ending, Refusal, NoFile, Limit, Malformed, refusal_ending, load, sized, well_formed, concluded, judged, promise_plan, check_plan, audit_plan, key_plan, keygen_plan, plan_of, input_limit, promise_ending, report_ending, report_status, key_ending}
 use Rattle.nr_spec_program.specs.Causes.{EndOf}
 use Rattle.nr_spec_program.specs.Command as command
 
@@ -69,16 +71,20 @@ keygen_each kind q is cut write sync = each_followed kind (key_plan q) _ (key_ea
 
 -- ---- endings
 
-report_ends : (promises : List PromiseFile) (found : Result Report Fact)
-    → Ends (λ e. (by : List PromiseFile) × (report : Report) × (e ≡ report_ending by report)) (concluded promises found)
-report_ends promises (Ok report) = (promises, report, refl)
-report_ends promises (Err fact) = tt
+audit_ends : (q : AuditRequest) (promise : program.PromiseFile) (answer : AnswerFile) (auths : List Authenticator)
+    → Ends (EndOf (Audit q)) (judged q.root promise answer q.period auths)
+audit_ends q promise answer auths = by_outcome (outcome q.root (audited_by promise ∷ []) (meant (promise.says ∷ [])) answer q.period auths) refl
+  where
+    by_outcome : (found : Result Report Fact) → found ≡ outcome q.root (audited_by promise ∷ []) (meant (promise.says ∷ [])) answer q.period auths
+        → Ends (EndOf (Audit q)) (concluded (promise_files (audited_by promise ∷ [])) found)
+    by_outcome (Ok report) is = (promise, answer, auths, ap (λ (o : Result Report Fact). concluded (promise_files (audited_by promise ∷ [])) o) (sym is))
+    by_outcome (Err fact) is = tt
 
 pub request_ends : (request : Request) → Ends (EndOf request) (plan_of request)
 unfolding plan_of check_plan audit_plan keygen_plan
 request_ends (Check q) = ends_followed (EndOf (Check q)) _ _ (λ promise. ends_followed (EndOf (Check q)) want _ (λ room. (promise, refl)))
 request_ends (Audit q) =
-    ends_followed (EndOf (Audit q)) _ _ (λ promise. ends_followed (EndOf (Audit q)) _ _ (λ answer_bytes. ends_followed (EndOf (Audit q)) _ _ (λ answer. ends_followed (EndOf (Audit q)) _ _ (λ auths_bytes. ends_followed (EndOf (Audit q)) _ _ (λ auths. report_ends _ _)))))
+    ends_followed (EndOf (Audit q)) _ _ (λ promise. ends_followed (EndOf (Audit q)) _ _ (λ answer_bytes. ends_followed (EndOf (Audit q)) _ _ (λ answer. ends_followed (EndOf (Audit q)) _ _ (λ auths_bytes. ends_followed (EndOf (Audit q)) _ _ (λ auths. audit_ends q promise answer auths)))))
 request_ends (Keygen q) = ends_followed (EndOf (Keygen q)) _ _ (λ key. ends_followed (EndOf (Keygen q)) want _ (λ room. ends_followed (EndOf (Keygen q)) _ _ (λ done. (key, refl))))
 
 -- the statuses of endings
@@ -90,9 +96,17 @@ report_low : (promises : List PromiseFile) (report : Report) → (report_ending 
 unfolding report_ending
 report_low promises report = claims_low (claims_of report)
 
+given : (x y : Ending) → (let work : Work Ending = Done x in work) ≡ Done y → x ≡ y
+given x y e = cc
+
 pub ends_low : (request : Request) (e : Ending) → EndOf request e → e.status ≤ 1
 unfolding promise_ending key_ending
-ends_low (Audit q) e (promises, report, is) = rw is (report_low promises report)
+ends_low (Audit q) e (promise, answer, auths, is) =
+    by_outcome (outcome q.root (audited_by promise ∷ []) (meant (promise.says ∷ [])) answer q.period auths) is
+  where
+    by_outcome : (found : Result Report Fact) → concluded (promise_files (audited_by promise ∷ [])) found ≡ Done e → e.status ≤ 1
+    by_outcome (Ok report) gave = rw (sym (given _ _ gave)) (report_low (promise_files (audited_by promise ∷ [])) report)
+    by_outcome (Err fact) gave = absurd (let h = gave in cc)
 ends_low (Keygen q) e (key, is) = rw is (omega arith)
 ends_low (Check q) e (promise, is) = rw is (omega arith)
 

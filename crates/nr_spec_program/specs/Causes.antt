@@ -1,16 +1,16 @@
 -- What a run's status and ending say of the words, of the counts of faults and of the files.
 use Rattle.std.specs.Prelude.{◌≡◌, ◌≢◌, ◌⊎◌, ℕ, ◌≤◌, false, List, [], ◌∷◌, Option, None, Some, Result, Ok, Err}
 use Rattle.nr_spec_history.specs.KeyFiles.{Key, key_file}
-use Rattle.nr_spec_outcome.specs.Report.{Report}
-use Rattle.nr_spec_promises.specs.Files as files
+use Rattle.nr_spec_log.specs.Authenticator.{Authenticator}
+use Rattle.nr_spec_log.specs.Answer.{AnswerFile}
 use Rattle.nr_spec_plans.specs.Disk.{Contents, Disk, Tape, Fault, Memory, Cuts, Writes, Syncs, more}
-use Rattle.nr_spec_plans.specs.Plans.{Action, Ask, Read, Cut, Write, Sync, Halt, Refused, Faulted, Runs}
+use Rattle.nr_spec_plans.specs.Plans.{Action, Done, Ask, Read, Cut, Write, Sync, Halt, Refused, Faulted, Runs}
 use Rattle.nr_spec_plans.specs.Laws.{IsAmong, IsRead, Unchanged, fault_in, outcome, reads_after, writes_after}
 use Rattle.nr_spec_plans.specs.Steps.{OnlyBy}
 use Rattle.nr_spec_commands.specs.Words.{Request, KeygenRequest, Audit, Keygen, Check}
 use Rattle.nr_spec_program.specs.Promises.{PromiseFile}
 use Rattle.nr_spec_program.specs.Command as command
-use Rattle.nr_spec_program.specs.Command.{Input, PromiseInput, AnswerInput, AuthsInput, SeedInput, NoFile, Limit, Malformed, Work, Ending, Refusal, refusal_ending, fault_ending, report_ending, key_ending, promise_ending, key_plan}
+use Rattle.nr_spec_program.specs.Command.{Input, PromiseInput, AnswerInput, AuthsInput, SeedInput, NoFile, Limit, Malformed, Work, Ending, Refusal, refusal_ending, fault_ending, key_ending, promise_ending, key_plan, judged}
 
 -- ---- counts
 
@@ -31,9 +31,12 @@ pub record NoneRose (old new : Disk) (before after : Tape) : Type 0 where
 
 -- ---- what ended the work
 
--- the endings of a request that nothing stopped
+-- The endings of a request that nothing stopped. That of an audit is what an answer and authenticators show by a promise
+-- file.
 abbrev pub EndOf : Request → Ending → Type 0
-EndOf (Audit q) e = (promises : List files.PromiseFile) × (report : Report) × (e ≡ report_ending promises report)
+EndOf (Audit q) e =
+    (promise : PromiseFile) × (answer : AnswerFile) × (auths : List Authenticator)
+    × (judged q.root promise answer q.period auths ≡ Done e)
 EndOf (Keygen q) e = (key : Key) × (e ≡ key_ending key)
 EndOf (Check q) e = (promise : PromiseFile) × (e ≡ promise_ending promise)
 
