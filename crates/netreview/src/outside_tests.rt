@@ -3,9 +3,9 @@
 ghost use Rattle.std.specs.Prelude.{None, ◌-◌, ◌^◌};
 
 use crate::run::run;
-use crate::tests::{audit_words, gives, row_files};
+use crate::tests::{USUAL, audit_words, audits, usual_files, words_of};
 use nr_ports::{Failed, Files, MemFiles, Sink, WriteFault};
-use std::test::Fail;
+use std::alloc::Global;
 
 // A sink that takes one byte of each piece.
 #[derive(Drop)]
@@ -65,45 +65,59 @@ impl Files for TooLong {
     }
 }
 
-#[test]
-fn goes_on_where_a_sink_takes_one_byte(rt: HostRuntime) -> Result<(), Fail> {
-    let alloc = rt.alloc();
-    let mut files = row_files(alloc)?;
-    let mut out = OneByte {
-        bytes: Vec::new(alloc),
-    };
-    let words = audit_words(alloc, "0", "0")?;
-    assert_eq!(rt; run(alloc, words.as_slice(), &mut files, &mut out), 0);
-    assert_eq!(rt; out.bytes.as_slice(), b"clean\n".as_slice());
-    Ok(())
+// Whether an audit of the smallest answer says to the sink that it is clean.
+fn goes_on(alloc: Global, files: &mut MemFiles, out: &mut OneByte) -> bool {
+    match words_of(alloc, &audit_words(USUAL)) {
+        Ok(words) => {
+            run(alloc, &words, files, out) == 0 && out.bytes.as_slice() == b"clean\n".as_slice()
+        }
+        Err(_) => false,
+    }
 }
 
 #[test]
-fn reads_nothing_of_a_file_past_its_limit(rt: HostRuntime) -> Result<(), Fail> {
-    let alloc = rt.alloc();
-    let words = audit_words(alloc, "0", "0")?;
-    for (name, size, status, text) in [
-        ("p", 1_048_576, 4, "read fault\n"),
-        ("p", 1_048_577, 7, "refused limit promise 1048577 1048576\n"),
-        (
-            "a",
-            2_147_483_648,
-            7,
-            "refused limit answer 2147483648 2147483647\n",
-        ),
-        (
-            "t",
-            1_073_741_825,
-            7,
-            "refused limit auths 1073741825 1073741824\n",
-        ),
-    ] {
-        let files = row_files(alloc)?;
-        let mut long = TooLong { files, name, size };
-        assert!(rt;
-            gives(alloc, words.as_slice(), &mut long, status, text),
-            "{text}"
-        );
+fn goes_on_where_a_sink_takes_one_byte(rt: HostRuntime) {
+    let mut files = usual_files(rt.alloc()).expect(&rt, "memory");
+    let mut out = OneByte {
+        bytes: Vec::new(rt.alloc()),
+    };
+    assert!(rt; goes_on(rt.alloc(), &mut files, &mut out));
+}
+
+// A name and the size of its file, and how an audit ends.
+const SIZES: [(&str, u64, u8, &str); 4] = [
+    ("p", 1_048_576, 4, "read fault\n"),
+    ("p", 1_048_577, 7, "refused limit promise 1048577 1048576\n"),
+    (
+        "a",
+        2_147_483_648,
+        7,
+        "refused limit answer 2147483648 2147483647\n",
+    ),
+    (
+        "t",
+        1_073_741_825,
+        7,
+        "refused limit auths 1073741825 1073741824\n",
+    ),
+];
+
+fn is_too_long(alloc: Global, (name, size): (&'static str, u64), status: u8, text: &str) -> bool {
+    match usual_files(alloc) {
+        Some(files) => {
+            let mut long = TooLong { files, name, size };
+            audits(alloc, USUAL, &mut long, status, text)
+        }
+        None => false,
+    }
+}
+
+#[test]
+fn reads_nothing_of_a_file_past_its_limit(rt: HostRuntime) -> Result<(), &'static str> {
+    for (name, size, status, text) in SIZES {
+        if !is_too_long(rt.alloc(), (name, size), status, text) {
+            return Err(text);
+        }
     }
     Ok(())
 }

@@ -1,12 +1,13 @@
 //! Rows through the program: words and files in, a status and a text out. Here is what the rows of all commands share.
+//! A row is a tuple of plain values in a table, and a test answers which of them ends otherwise.
 
 use crate::run::run;
-use nr_bytes::{Memory, put_bytes, put_u8, put_u16, put_u32, put_u64};
+use nr_bytes::{Memory, put_bytes, put_u32, put_u64};
 use nr_lamport::Seed;
 use nr_merkle::Tree;
 use nr_ports::{Files, MemFiles, MemSink};
 use std::alloc::{AllocError, Global};
-use std::test::Fail;
+use std::fmt::Write;
 
 pub const SEED: [u8; 32] = [
     0, 1, 2, 3, 4, 5, 6, 7, 8, 9, 10, 11, 12, 13, 14, 15, 16, 17, 18, 19, 20, 21, 22, 23, 24, 25,
@@ -15,96 +16,104 @@ pub const SEED: [u8; 32] = [
 
 pub const ROOT: &str = "1a2ebdedd74930ef4334aafba6e1eec56331b88ee789406e92066fa27bcf177e";
 
-pub const UPPER_ROOT: &str = "1A2EBDEDD74930EF4334AAFBA6E1EEC56331B88EE789406E92066FA27BCF177E";
+pub const T0: &[u8] = b"network 64500; commit 60;\n";
 
-pub const SHORT_ROOT: &str = "1a2ebdedd74930ef4334aafba6e1eec56331b88ee789406e92066fa27bcf177";
+pub const SHORT: &[u8] = b"network 64500;";
 
-pub const T0: &[u8; 26] = b"network 64500; commit 60;\n";
+pub const ONES: &str = "0101010101010101010101010101010101010101010101010101010101010101";
 
-pub const SHORT: &[u8; 14] = b"network 64500;";
-
-pub const WITHOUT_ELSE: &[u8; 157] = b"network 64500; commit 60;
-neighbour p as 64501 at 192.0.2.1;
-group peers = p;
-promise t grace 0 { all n in peers { if r = sent(n) then r has 65000:1 end } }
-";
-
-// The chain values of entries 1 and 2 of the smallest log, and of entry 2 where entry 1 has the time 1:
-// computed from their definition by another program.
+// The chain value of entries 1 and 2 of the smallest log, computed from its definition by another program.
 pub const SECOND: &str = "7bc86539f23b7de5009eb67b51d7faebe17048c1976906c8936419ad530a37fe";
 
-pub const OTHER_SECOND: &str = "132dc96771ebc251885153eb4515fa0132579ea162f0a94dc45c165f4f8aff59";
-
-pub fn sized(bytes: &[u8]) -> [u8; 32] {
-    let mut digest = [0u8; 32];
-    for (to, from) in digest.iter_mut().zip(bytes) {
-        *to = *from;
-    }
-    digest
+/// A log: the promise file by which it is audited, its entries, a line for each, how many they are, the time of the
+/// last, and its chain value.
+pub struct Log {
+    pub file: &'static [u8],
+    pub entries: &'static str,
+    pub count: u32,
+    pub time: u64,
+    pub value: &'static str,
 }
 
-pub fn digest_of(alloc: Global, text: &str) -> Result<[u8; 32], Fail> {
-    let bytes = hex::decode(alloc, text)?;
-    Ok(sized(bytes.as_slice()))
+// A PROMISE of T0 at time 0, and a COMMIT to the auditor at time 1.
+const SMALLEST: Log = Log {
+    file: T0,
+    entries: "\
+        00000000000000000700261375025123b16bf96231b58c900e4c344b41888c97be7aab4f6188ed8636572300000000003c\
+        0000000000000001050006ffff00000000",
+    count: 2,
+    time: 1,
+    value: SECOND,
+};
+
+// Puts the bytes that the text spells.
+fn put_hex(alloc: Global, out: &mut Vec<u8>, text: &str) -> bool {
+    match hex::decode(alloc, text) {
+        Ok(bytes) => put_bytes(out, &bytes).is_ok(),
+        Err(_) => false,
+    }
 }
 
 // Signs a body with leaf 1 of the seed's tree of height 1.
-pub fn put_signature(
-    alloc: Global,
-    seed: &Seed,
-    out: &mut Vec<u8>,
-    body: &[u8],
-) -> Result<(), Memory> {
+fn put_signature(alloc: Global, seed: &Seed, out: &mut Vec<u8>, body: &[u8]) -> Result<(), Memory> {
     let tree = Tree::build(alloc, seed, 1)?;
     tree.sign(seed, 1, body, out)
 }
 
-pub fn put_auth(
-    alloc: Global,
-    out: &mut Vec<u8>,
-    seq: u64,
-    time: u64,
-    hash: &[u8; 32],
-) -> Result<(), Memory> {
+fn put_numbers(body: &mut Vec<u8>, seq: u64, time: u64) -> Result<(), Memory> {
+    put_u32(body, 64500)?;
+    put_u64(body, seq)?;
+    put_u64(body, time)
+}
+
+/// Puts an authenticator of an entry of this number, time and chain value.
+pub fn put_auth(alloc: Global, out: &mut Vec<u8>, seq: u64, time: u64, value: &str) -> bool {
     let mut body = Vec::new(alloc);
-    put_u32(&mut body, 64500)?;
-    put_u64(&mut body, seq)?;
-    put_u64(&mut body, time)?;
-    put_bytes(&mut body, hash)?;
-    put_bytes(out, &body)?;
-    put_signature(alloc, &Seed(SEED), out, &body)
+    put_numbers(&mut body, seq, time).is_ok()
+        && put_hex(alloc, &mut body, value)
+        && put_bytes(out, &body).is_ok()
+        && put_signature(alloc, &Seed(SEED), out, &body).is_ok()
 }
 
-// The smallest answer: a PROMISE of T0 at time 0, a COMMIT to the auditor at time 1, and the head.
-pub fn smallest(alloc: Global) -> Result<Vec<u8>, Fail> {
+// An answer of AS 64500 up to its count: from entry 1 on, after what the chain of that AS begins with.
+const OPENING: &str =
+    "4e5241310000fbf4000000000000000130d47d2b332025cb885b0a9450cb419bb9d806f2816bd7bcb314c655d92ce1bf00";
+
+/// Puts the answer that is a whole log.
+pub fn put_answer(alloc: Global, out: &mut Vec<u8>, log: &Log) -> bool {
+    put_hex(alloc, out, OPENING)
+        && put_u32(out, log.count).is_ok()
+        && put_hex(alloc, out, log.entries)
+        && put_auth(alloc, out, u64::from(log.count), log.time, log.value)
+}
+
+/// The answer that is the smallest log, of 16,592 bytes.
+pub fn smallest(alloc: Global) -> Option<Vec<u8>> {
     let mut out = Vec::new(alloc);
-    put_bytes(&mut out, b"NRA1")?;
-    put_u32(&mut out, 64500)?;
-    put_u64(&mut out, 1)?;
-    put_bytes(&mut out, &nr_chain::genesis(64500).0)?;
-    put_u8(&mut out, 0)?;
-    put_u32(&mut out, 2)?;
-    put_u64(&mut out, 0)?;
-    put_u8(&mut out, 7)?;
-    put_u16(&mut out, 38)?;
-    put_bytes(&mut out, &nr_chain::sha256(T0).0)?;
-    put_u16(&mut out, 0)?;
-    put_u32(&mut out, 60)?;
-    put_u64(&mut out, 1)?;
-    put_u8(&mut out, 5)?;
-    put_u16(&mut out, 6)?;
-    put_u16(&mut out, 65535)?;
-    put_u32(&mut out, 0)?;
-    put_auth(alloc, &mut out, 2, 1, &digest_of(alloc, SECOND)?)?;
-    Ok(out)
+    if put_answer(alloc, &mut out, &SMALLEST) {
+        Some(out)
+    } else {
+        None
+    }
 }
 
-pub fn row_files(alloc: Global) -> Result<MemFiles, Fail> {
+/// A promise file, an answer and authenticators, under the names `p`, `a` and `t`.
+pub fn three_files(alloc: Global, promise: &[u8], answer: &[u8], auths: &[u8]) -> Option<MemFiles> {
     let mut files = MemFiles::new(alloc);
-    files.put("p", T0)?;
-    files.put("a", smallest(alloc)?.as_slice())?;
-    files.put("t", b"NRT1")?;
-    Ok(files)
+    if files.put("p", promise).is_ok()
+        && files.put("a", answer).is_ok()
+        && files.put("t", auths).is_ok()
+    {
+        Some(files)
+    } else {
+        None
+    }
+}
+
+/// The files of an audit of the smallest answer, with no authenticators.
+pub fn usual_files(alloc: Global) -> Option<MemFiles> {
+    let answer = smallest(alloc)?;
+    three_files(alloc, T0, &answer, b"NRT1")
 }
 
 pub fn words_of(alloc: Global, words: &[&str]) -> Result<Vec<String>, AllocError> {
@@ -115,65 +124,109 @@ pub fn words_of(alloc: Global, words: &[&str]) -> Result<Vec<String>, AllocError
     Ok(out)
 }
 
-// The words of an audit of these files over a period.
-pub fn audit_words(alloc: Global, from: &str, to: &str) -> Result<Vec<String>, AllocError> {
-    words_of(
-        alloc,
-        &[
-            "audit",
-            "--root",
-            ROOT,
-            "--promise",
-            "p",
-            "--answer",
-            "a",
-            "--auths",
-            "t",
-            "--from",
-            from,
-            "--to",
-            to,
-        ],
-    )
-}
-
-// Whether a run over these files gives this status and this text.
+/// Whether a run over these files gives this status and this text.
 pub fn gives<F: Files>(
     alloc: Global,
-    words: &[String],
+    words: &[&str],
     files: &mut F,
     status: u8,
     text: &str,
 ) -> bool {
     let mut out = MemSink::new(alloc);
-    let answered = run(alloc, words, files, &mut out);
-    answered == status && out.bytes() == text.as_bytes()
-}
-
-// These bytes, changed at one place.
-pub fn changed(alloc: Global, from: &[u8], at: usize, value: u8) -> Result<Vec<u8>, Fail> {
-    let mut bytes = Vec::from_slice(alloc, from)?;
-    if let Some(byte) = bytes.get_mut(at) {
-        *byte = value;
+    match words_of(alloc, words) {
+        Ok(words) => {
+            run(alloc, &words, files, &mut out) == status && out.bytes() == text.as_bytes()
+        }
+        Err(_) => false,
     }
-    Ok(bytes)
 }
 
-// Whether a name holds these bytes.
+/// Whether these words end with status 5, and offer nothing more, where the first call of the sink fails.
+pub fn fails_at_the_sink(alloc: Global, words: &[&str], files: &mut MemFiles) -> bool {
+    let mut out = MemSink::new(alloc);
+    match words_of(alloc, words) {
+        Ok(words) => {
+            out.fail_call(1).is_ok()
+                && run(alloc, &words, files, &mut out) == 5
+                && out.bytes().is_empty()
+        }
+        Err(_) => false,
+    }
+}
+
+/// The words of an audit under a root, of a promise file, the answer `a` and authenticators, over a period.
+pub fn audit_words([root, promise, auths, from, to]: [&str; 5]) -> [&str; 13] {
+    [
+        "audit",
+        "--root",
+        root,
+        "--promise",
+        promise,
+        "--answer",
+        "a",
+        "--auths",
+        auths,
+        "--from",
+        from,
+        "--to",
+        to,
+    ]
+}
+
+/// An audit of the three files at time 0.
+pub const USUAL: [&str; 5] = [ROOT, "p", "t", "0", "0"];
+
+/// Whether an audit over these files gives this status and this text.
+pub fn audits<F: Files>(
+    alloc: Global,
+    asked: [&str; 5],
+    files: &mut F,
+    status: u8,
+    text: &str,
+) -> bool {
+    gives(alloc, &audit_words(asked), files, status, text)
+}
+
+/// The files of an audit of a log, with an authenticator at time 0 that no entry is.
+pub fn files_of(alloc: Global, log: &Log) -> Option<MemFiles> {
+    let mut answer = Vec::new(alloc);
+    let mut auths = Vec::new(alloc);
+    if put_answer(alloc, &mut answer, log)
+        && put_bytes(&mut auths, b"NRT1").is_ok()
+        && put_auth(alloc, &mut auths, 5, 0, ONES)
+    {
+        three_files(alloc, log.file, &answer, &auths)
+    } else {
+        None
+    }
+}
+
+/// A period, and how an audit over it ends.
+pub type Row = (&'static str, &'static str, u8, &'static str);
+
+/// The text of the first row that ends otherwise.
+pub fn wrong_row(alloc: Global, rows: &[Row], files: &mut MemFiles) -> Option<&'static str> {
+    for (from, to, status, text) in rows {
+        if !audits(alloc, [ROOT, "p", "t", *from, *to], files, *status, text) {
+            return Some(*text);
+        }
+    }
+    None
+}
+
+/// The line of a file that is malformed at a place.
+pub fn malformed(alloc: Global, file: &str, place: u64) -> Option<String> {
+    let mut text = String::new(alloc);
+    match writeln!(text, "malformed {file} {place}") {
+        Ok(()) => Some(text),
+        Err(_) => None,
+    }
+}
+
+/// Whether a name holds these bytes.
 pub fn holds(files: &MemFiles, name: &str, bytes: &[u8]) -> bool {
     match files.bytes(name) {
         Some(found) => found == bytes,
         None => false,
     }
-}
-
-// Whether these words end with status 5, and offer nothing more, where the first call of the sink fails.
-pub fn fails_at_the_sink(
-    alloc: Global,
-    words: &[String],
-    files: &mut MemFiles,
-) -> Result<bool, Memory> {
-    let mut out = MemSink::new(alloc);
-    out.fail_call(1)?;
-    Ok(run(alloc, words, files, &mut out) == 5 && out.bytes().is_empty())
 }

@@ -1,23 +1,10 @@
 //! Rows of `audit` over logs with wrong entries. `bench/rows.py` computes the logs and the lines apart from the
 //! program.
 
-use crate::tests::{audit_words, digest_of, gives, put_auth, row_files};
-use nr_bytes::{put_bytes, put_u8, put_u32, put_u64};
-use std::alloc::Global;
-use std::test::Fail;
-
-// A log: the promise file by which it is audited, its entries, how many they are, the time of the last, and its chain
-// value.
-pub struct Log {
-    pub file: &'static [u8],
-    pub entries: &'static [&'static str],
-    pub count: u32,
-    pub time: u64,
-    pub value: &'static str,
-}
+use crate::tests::{Log, Row, files_of, wrong_row};
 
 // What the rows audit by.
-const FILE: &[u8; 96] = b"network 64500;
+const FILE: &[u8] = b"network 64500;
 commit 60;
 neighbour p as 64501 at 192.0.2.1;
 neighbour q as 64502 at 192.0.2.2;
@@ -27,19 +14,18 @@ neighbour q as 64502 at 192.0.2.2;
 // waits for a minute at entry 8, and for longer at entry 9; entry 10 is the COMMIT that is due.
 const EACH_CAUSE: Log = Log {
     file: FILE,
-    entries: &[
-        "0000000000000000050006ffff00000000",
-        "0000000000000000010016000001ffffffffffffffffffffffffffffffff001304",
-        "000000000000000107002691172cfca9feb6d998432fddf856180c0d81581256417b4d070bbd390f245df000030000003c",
-        "0000000000000001080000",
-        "000000000000000104005a000000000000000000020000000000000001000000000000000000000000000000000000000000000000000000000000000000000000000000000000000000000000000000000000000000000000000000000000000000000000",
-        "0000000000000001050006ffff00000007",
-        "0000000000000001060020e3b0c44298fc1c149afbf4c8996fb92427ae41e4649b934ca495991b7852b855",
-        "0000000003938700030006000100010001",
-        "0000000003938701030006000100010001",
-        "0000000003938701050006000000000002",
-        "0000000003938702050006ffff00000003",
-    ],
+    entries: "\
+        0000000000000000050006ffff00000000\
+        0000000000000000010016000001ffffffffffffffffffffffffffffffff001304\
+        000000000000000107002691172cfca9feb6d998432fddf856180c0d81581256417b4d070bbd390f245df000030000003c\
+        0000000000000001080000\
+        000000000000000104005a000000000000000000020000000000000001000000000000000000000000000000000000000000000000000000000000000000000000000000000000000000000000000000000000000000000000000000000000000000000000\
+        0000000000000001050006ffff00000007\
+        0000000000000001060020e3b0c44298fc1c149afbf4c8996fb92427ae41e4649b934ca495991b7852b855\
+        0000000003938700030006000100010001\
+        0000000003938701030006000100010001\
+        0000000003938701050006000000000002\
+        0000000003938702050006ffff00000003",
     count: 11,
     time: 60_000_002,
     value: "0b4627c9e10ecfe7d03acd3f0955b9c29eac105f3f82348c1c7a184545f15aa5",
@@ -49,84 +35,52 @@ const EACH_CAUSE: Log = Log {
 // neighbour 0 is gone after its malformed message; and it stands again. Entry 9 leaves out a row.
 const CHECKPOINTS: Log = Log {
     file: FILE,
-    entries: &[
-        "000000000000000007002691172cfca9feb6d998432fddf856180c0d81581256417b4d070bbd390f245df000020000003c",
-        "00000000000f4240020034000001ffffffffffffffffffffffffffffffff0031020003100a0100144001010040020602010000fbf4400304c0000202100a01",
-        "00000000001e8480010034000101ffffffffffffffffffffffffffffffff0031020003100a0100144001010040020602010000fbf4400304c0000202100a01",
-        "00000000002dc6c00600202e4dbab0910e8af50c90e30e5507be7ac0081ea44b04a0867062b9cf4268989a",
-        "00000000003d0900020017000001ffffffffffffffffffffffffffffffff00140400",
-        "00000000003d090006002070a0399f988da5eedaed21e06a1d1b2a71bc5c3e329875e7341114e9a3ab4cab",
-        "00000000004c4b40020034000001ffffffffffffffffffffffffffffffff0031020003100a0100144001010040020602010000fbf4400304c0000202100a01",
-        "00000000004c4b40050006ffff00000000",
-        "00000000005b8d8006002086a20b2fd2f22074a185c5998f0e8942888a8fe3c21a7d6dfcd2307d7d05bc71",
-        "00000000005b8d80060020287c1c78e725204ec297d754d9cd1adabe87ead9af2dfffa3b7d8a18aa0b4bf5",
-        "00000000006acfc0050006ffff00000001",
-    ],
+    entries: "\
+        000000000000000007002691172cfca9feb6d998432fddf856180c0d81581256417b4d070bbd390f245df000020000003c\
+        00000000000f4240020034000001ffffffffffffffffffffffffffffffff0031020003100a0100144001010040020602010000fbf4400304c0000202100a01\
+        00000000001e8480010034000101ffffffffffffffffffffffffffffffff0031020003100a0100144001010040020602010000fbf4400304c0000202100a01\
+        00000000002dc6c00600202e4dbab0910e8af50c90e30e5507be7ac0081ea44b04a0867062b9cf4268989a\
+        00000000003d0900020017000001ffffffffffffffffffffffffffffffff00140400\
+        00000000003d090006002070a0399f988da5eedaed21e06a1d1b2a71bc5c3e329875e7341114e9a3ab4cab\
+        00000000004c4b40020034000001ffffffffffffffffffffffffffffffff0031020003100a0100144001010040020602010000fbf4400304c0000202100a01\
+        00000000004c4b40050006ffff00000000\
+        00000000005b8d8006002086a20b2fd2f22074a185c5998f0e8942888a8fe3c21a7d6dfcd2307d7d05bc71\
+        00000000005b8d80060020287c1c78e725204ec297d754d9cd1adabe87ead9af2dfffa3b7d8a18aa0b4bf5\
+        00000000006acfc0050006ffff00000001",
     count: 11,
     time: 7_000_000,
     value: "c7d688cc714fee3405b46d5d5b04d4338a4fb842a7f520d68a8c3f5e0302dbf4",
 };
 
-// The answer that is a whole log.
-fn answer_of(alloc: Global, log: &Log) -> Result<Vec<u8>, Fail> {
-    let mut out = Vec::new(alloc);
-    put_bytes(&mut out, b"NRA1")?;
-    put_u32(&mut out, 64500)?;
-    put_u64(&mut out, 1)?;
-    put_bytes(&mut out, &nr_chain::genesis(64500).0)?;
-    put_u8(&mut out, 0)?;
-    put_u32(&mut out, log.count)?;
-    for text in log.entries {
-        put_bytes(&mut out, hex::decode(alloc, text)?.as_slice())?;
-    }
-    let value = digest_of(alloc, log.value)?;
-    put_auth(alloc, &mut out, u64::from(log.count), log.time, &value)?;
-    Ok(out)
-}
-
-// Whether an audit of a log over a period, with an authenticator at time 0 that no entry is, ends so.
-pub fn audit_of(
-    alloc: Global,
-    log: &Log,
-    from: &str,
-    to: &str,
-    status: u8,
-    text: &str,
-) -> Result<bool, Fail> {
-    let mut auths = Vec::new(alloc);
-    put_bytes(&mut auths, b"NRT1")?;
-    put_auth(alloc, &mut auths, 5, 0, &[1; 32])?;
-    let mut files = row_files(alloc)?;
-    files.put("p", log.file)?;
-    files.put("a", answer_of(alloc, log)?.as_slice())?;
-    files.put("t", auths.as_slice())?;
-    let words = audit_words(alloc, from, to)?;
-    Ok(gives(alloc, words.as_slice(), &mut files, status, text))
-}
+const EACH_CAUSE_ROWS: [Row; 3] = [
+    (
+        "0",
+        "60000001",
+        1,
+        "conflict 5 0 0101010101010101010101010101010101010101010101010101010101010101\nwrong 1 first\nwrong 2 neighbour\nwrong 3 numbers\nwrong 4 content\nwrong 5 ack\nwrong 6 leaf\nwrong 7 checkpoint\nwrong 9 overdue\n",
+    ),
+    ("60000001", "60000001", 1, "wrong 9 overdue\n"),
+    (
+        "0",
+        "0",
+        7,
+        "refused promise none 91172cfca9feb6d998432fddf856180c0d81581256417b4d070bbd390f245df0\n",
+    ),
+];
 
 #[test]
-fn wrong_entries_are_told_after_conflicts(rt: HostRuntime) -> Result<(), Fail> {
-    let alloc = rt.alloc();
-    for (log, from, to, status, text) in [
-        (
-            &EACH_CAUSE,
-            "0",
-            "60000001",
-            1,
-            "conflict 5 0 0101010101010101010101010101010101010101010101010101010101010101\nwrong 1 first\nwrong 2 neighbour\nwrong 3 numbers\nwrong 4 content\nwrong 5 ack\nwrong 6 leaf\nwrong 7 checkpoint\nwrong 9 overdue\n",
-        ),
-        (&EACH_CAUSE, "60000001", "60000001", 1, "wrong 9 overdue\n"),
-        (
-            &EACH_CAUSE,
-            "0",
-            "0",
-            7,
-            "refused promise none 91172cfca9feb6d998432fddf856180c0d81581256417b4d070bbd390f245df0\n",
-        ),
-        (&CHECKPOINTS, "1", "6999999", 1, "wrong 9 checkpoint\n"),
-        (&CHECKPOINTS, "1", "5999999", 0, "clean\n"),
-    ] {
-        assert!(rt; audit_of(alloc, log, from, to, status, text)?, "{text}");
-    }
-    Ok(())
+fn wrong_entries_are_told_after_conflicts(rt: HostRuntime) {
+    let mut files = files_of(rt.alloc(), &EACH_CAUSE).expect(&rt, "memory");
+    assert_eq!(rt; wrong_row(rt.alloc(), &EACH_CAUSE_ROWS, &mut files), None);
+}
+
+const CHECKPOINT_ROWS: [Row; 2] = [
+    ("1", "6999999", 1, "wrong 9 checkpoint\n"),
+    ("1", "5999999", 0, "clean\n"),
+];
+
+#[test]
+fn a_checkpoint_that_leaves_out_a_row_is_wrong(rt: HostRuntime) {
+    let mut files = files_of(rt.alloc(), &CHECKPOINTS).expect(&rt, "memory");
+    assert_eq!(rt; wrong_row(rt.alloc(), &CHECKPOINT_ROWS, &mut files), None);
 }
