@@ -92,10 +92,10 @@ const WORDS: [([&str; 2], u8, &str); 7] = [
     (["64500", "257"], 2, "usage\n"),
 ];
 
-fn wrong_words(alloc: Global, files: &mut MemFiles) -> Option<[&'static str; 2]> {
+fn wrong_words(alloc: Global, files: &mut MemFiles) -> Option<(&'static str, &'static str)> {
     for (words, status, text) in WORDS {
         if !gives(alloc, &keygen_words(words), files, status, text) {
-            return Some(words);
+            return Some((words[0], words[1]));
         }
     }
     None
