@@ -1,5 +1,6 @@
 -- The words of the command line: which lists of words are taken, and what they ask for.
-use Rattle.std.specs.Prelude.{ℕ, Bool, true, false, ◌&&◌, ◌||◌, nat_le, if◌then◌else◌, List, [], ◌∷◌, length, slice_get, Option, None, Some, codes}
+use Rattle.std.specs.Prelude.{ℕ, Bool, true, false, ◌&&◌, ◌||◌, not, nat_le, if◌then◌else◌, List, [], ◌∷◌, length, slice_get, Option, None, Some, codes, option_map}
+use Rattle.std.specs.List.{list_any}
 use Rattle.std.specs.Result.{result_ok}
 use Rattle.std.specs.Str.{bytes_eq, all_ascii_digits}
 use Rattle.std.specs.Str.Parse.{digits_value}
@@ -126,12 +127,79 @@ check_in values = do
   promise ← value_at values 0
   Some (record { promise = promise })
 
+-- the option `--NAME VALUE`, which may be given
+abbrev pub optional : List ℕ → OptionRule
+optional name = record { name = name; required = false }
+
+-- no two of these names are equal
+abbrev pub are_apart : List (List ℕ) → Bool
+are_apart [] = true
+are_apart (name ∷ others) = not (list_any (bytes_eq name) others) && are_apart others
+
+-- `record --promise F --key F --log F [--until N] [MRT files]`
+abbrev pub record_grammar : Grammar
+record_grammar = record {
+  command = codes "record";
+  options =
+      required (codes "promise") ∷ required (codes "key") ∷ required (codes "log") ∷ optional (codes "until") ∷ [];
+  files = true;
+}
+
+-- what `record` is asked for: the names of a promise file, a key file, a log and MRT files, and a time for the end, if
+-- one is given
+pub record RecordRequest : Type 0 where
+  pub promise : List ℕ
+  pub key : List ℕ
+  pub log : List ℕ
+  pub until : Option ℕ
+  pub files : List (List ℕ)
+
+-- the number of an option, which may be absent; nothing where its word writes none
+abbrev pub until_in : Option (List ℕ) → Option (Option ℕ)
+until_in None = Some None
+until_in (Some word) = option_map Some (number_in word)
+
+-- Two equal file words aren't taken.
+unfoldable pub record_in : Values → Option RecordRequest
+record_in values = do
+  promise ← value_at values 0
+  key ← value_at values 1
+  log ← value_at values 2
+  until ← until_in (value_at values 3)
+  if are_apart (promise ∷ key ∷ log ∷ values.files)
+      then Some (record { promise = promise; key = key; log = log; until = until; files = values.files })
+      else None
+
+-- `answer --key F --log F --out F`
+abbrev pub answer_grammar : Grammar
+answer_grammar = record {
+  command = codes "answer";
+  options = required (codes "key") ∷ required (codes "log") ∷ required (codes "out") ∷ [];
+  files = false;
+}
+
+-- what `answer` is asked for: the names of a key file, of a log, and of the answer file
+pub record AnswerRequest : Type 0 where
+  pub key : List ℕ
+  pub log : List ℕ
+  pub out : List ℕ
+
+-- Two equal file words aren't taken.
+unfoldable pub answer_in : Values → Option AnswerRequest
+answer_in values = do
+  key ← value_at values 0
+  log ← value_at values 1
+  out ← value_at values 2
+  if are_apart (key ∷ log ∷ out ∷ []) then Some (record { key = key; log = log; out = out }) else None
+
 -- ---- the table of commands
 
 pub data Request : Type 0 where
   Audit : (audit : AuditRequest) → Request
   Keygen : (keygen : KeygenRequest) → Request
   Check : (check : CheckRequest) → Request
+  Record : (recording : RecordRequest) → Request
+  Answer : (answer : AnswerRequest) → Request
 
 abbrev pub audit_request : List (List ℕ) → Option Request
 audit_request words = values_in audit_grammar words >>= λ values. audit_in values >>= λ audit. Some (Audit audit)
@@ -142,6 +210,13 @@ keygen_request words = values_in keygen_grammar words >>= λ values. keygen_in v
 abbrev pub check_request : List (List ℕ) → Option Request
 check_request words = values_in check_grammar words >>= λ values. check_in values >>= λ check. Some (Check check)
 
+abbrev pub record_request : List (List ℕ) → Option Request
+record_request words =
+    values_in record_grammar words >>= λ values. record_in values >>= λ recording. Some (Record recording)
+
+abbrev pub answer_request : List (List ℕ) → Option Request
+answer_request words = values_in answer_grammar words >>= λ values. answer_in values >>= λ answer. Some (Answer answer)
+
 -- what the words ask for, by the command word, which stands first
 unfoldable pub request_in : List (List ℕ) → Option Request
 request_in [] = None
@@ -149,4 +224,6 @@ request_in (command ∷ words) =
     if bytes_eq command (codes "audit") then audit_request (command ∷ words)
     else if bytes_eq command (codes "keygen") then keygen_request (command ∷ words)
     else if bytes_eq command (codes "check") then check_request (command ∷ words)
+    else if bytes_eq command (codes "record") then record_request (command ∷ words)
+    else if bytes_eq command (codes "answer") then answer_request (command ∷ words)
     else None

@@ -1,16 +1,18 @@
 -- What a run's status and ending say of the words, of the counts of faults and of the files.
-use Rattle.std.specs.Prelude.{◌≡◌, ◌≢◌, ◌⊎◌, ℕ, ◌≤◌, false, List, [], ◌∷◌, Option, None, Some, Result, Ok, Err}
+use Rattle.std.specs.Prelude.{◌≡◌, ◌≢◌, ◌⊎◌, ℕ, ◌≤◌, ◌-◌, Bool, false, true, if◌then◌else◌, List, [], ◌∷◌, ◌++◌, Option, None, Some, Result, Ok, Err, option_map, take}
 use Rattle.nr_spec_history.specs.KeyFiles.{Key, key_file}
 use Rattle.nr_spec_log.specs.Authenticator.{Authenticator}
 use Rattle.nr_spec_log.specs.Answer.{AnswerFile}
+use Rattle.nr_spec_store.specs.LogFile.{LogFile}
 use Rattle.nr_spec_plans.specs.Disk.{Contents, Disk, Tape, Fault, Memory, Cuts, Writes, Syncs, more}
 use Rattle.nr_spec_plans.specs.Plans.{Action, Done, Ask, Read, Cut, Write, Sync, Halt, Refused, Faulted, Runs}
 use Rattle.nr_spec_plans.specs.Laws.{IsAmong, IsRead, Unchanged, fault_in, outcome, reads_after, writes_after}
 use Rattle.nr_spec_plans.specs.Steps.{OnlyBy}
-use Rattle.nr_spec_commands.specs.Words.{Request, KeygenRequest, Audit, Keygen, Check}
+use Rattle.nr_spec_commands.specs.Words.{Request, KeygenRequest, Audit, Keygen, Check, Record, Answer}
 use Rattle.nr_spec_program.specs.Promises.{PromiseFile}
 use Rattle.nr_spec_program.specs.Command as command
-use Rattle.nr_spec_program.specs.Command.{Input, PromiseInput, AnswerInput, AuthsInput, SeedInput, NoFile, Limit, Malformed, Work, Ending, Refusal, refusal_ending, fault_ending, key_ending, promise_ending, key_plan, judged}
+use Rattle.nr_spec_program.specs.Command.{Input, PromiseInput, AnswerInput, AuthsInput, KeyInput, LogInput, MrtInput, LogFact, KeySpent, LongLog, NoFile, Limit, Malformed, Prevented, Work, Ending, Refusal, refusal_ending, fault_ending, key_ending, promise_ending, key_plan, judged}
+use Rattle.nr_spec_program.specs.Recording.{answered_ending, recorded_ending}
 
 -- ---- counts
 
@@ -39,6 +41,8 @@ EndOf (Audit q) e =
     × (judged q.root promise answer q.period auths ≡ Done e)
 EndOf (Keygen q) e = (key : Key) × (e ≡ key_ending key)
 EndOf (Check q) e = (promise : PromiseFile) × (e ≡ promise_ending promise)
+EndOf (Record q) e = (before after : LogFile) × ((skips : ℕ) × (e ≡ recorded_ending before after skips))
+EndOf (Answer q) e = (answer : AnswerFile) × (e ≡ answered_ending answer)
 
 -- The words ask for a request, whose plan gave an ending of this status.
 pub record GaveEnding (request : Option Request) (result : Result Ending (Halt Refusal)) (status : ℕ) : Type 0 where
@@ -95,41 +99,79 @@ abbrev pub read_names : Request → List (List ℕ)
 read_names (Audit q) = q.promise ∷ q.answer ∷ q.auths ∷ []
 read_names (Keygen q) = q.seed ∷ []
 read_names (Check q) = q.promise ∷ []
+read_names (Record q) = q.promise ∷ q.key ∷ (q.files ++ q.log ∷ [])
+read_names (Answer q) = q.key ∷ q.log ∷ []
+
+-- the log of a request, which is synced before it is read
+abbrev pub log_names : Request → List (List ℕ)
+log_names (Audit q) = []
+log_names (Keygen q) = []
+log_names (Check q) = []
+log_names (Record q) = q.log ∷ []
+log_names (Answer q) = q.log ∷ []
 
 -- the files that a request may write
 abbrev pub written_names : Request → List (List ℕ)
 written_names (Audit q) = []
 written_names (Keygen q) = q.key ∷ []
 written_names (Check q) = []
+written_names (Record q) = q.log ∷ []
+written_names (Answer q) = q.out ∷ []
 
 -- the same of the words; those that aren't taken name no file
 abbrev pub read_in : Option Request → List (List ℕ)
 read_in None = []
 read_in (Some request) = read_names request
 
+abbrev pub log_in : Option Request → List (List ℕ)
+log_in None = []
+log_in (Some request) = log_names request
+
 abbrev pub written_in : Option Request → List (List ℕ)
 written_in None = []
 written_in (Some request) = written_names request
 
+-- The step asks for, or reads, a file of the first names, syncs one of the second or third, or writes one of the third.
+abbrev pub Touches : (read synced written : List (List ℕ)) → Action → Type 0
+Touches read synced written (Ask name) = IsAmong name read
+Touches read synced written (Read name size) = IsAmong name read
+Touches read synced written (Cut name len) = IsAmong name written
+Touches read synced written (Write name at bytes) = IsAmong name written
+Touches read synced written (Sync name) = IsAmong name (synced ++ written)
+
 -- ---- refusals
 
--- the input files of a request before this one, in the order in which they are asked for
+-- the input files of a request, in the order in which they are asked for, up to this one and without it
 abbrev pub names_before : Request → Input → List (List ℕ)
 names_before (Audit q) PromiseInput = []
 names_before (Audit q) AnswerInput = q.promise ∷ []
 names_before (Audit q) AuthsInput = q.promise ∷ q.answer ∷ []
-names_before (Audit q) SeedInput = []
+names_before (Audit q) input = []
 names_before (Keygen q) input = []
 names_before (Check q) input = []
+names_before (Record q) PromiseInput = []
+names_before (Record q) KeyInput = q.promise ∷ []
+names_before (Record q) (MrtInput number) = q.promise ∷ q.key ∷ take (number - 1) q.files
+names_before (Record q) LogInput = q.promise ∷ q.key ∷ q.files
+names_before (Record q) input = []
+names_before (Answer q) LogInput = q.key ∷ []
+names_before (Answer q) input = []
 
 -- the same with this one
 abbrev pub names_until : Request → Input → List (List ℕ)
 names_until (Audit q) PromiseInput = q.promise ∷ []
 names_until (Audit q) AnswerInput = q.promise ∷ q.answer ∷ []
 names_until (Audit q) AuthsInput = q.promise ∷ q.answer ∷ q.auths ∷ []
-names_until (Audit q) SeedInput = []
+names_until (Audit q) input = []
 names_until (Keygen q) input = q.seed ∷ []
 names_until (Check q) input = q.promise ∷ []
+names_until (Record q) PromiseInput = q.promise ∷ []
+names_until (Record q) KeyInput = q.promise ∷ q.key ∷ []
+names_until (Record q) (MrtInput number) = q.promise ∷ q.key ∷ take number q.files
+names_until (Record q) LogInput = q.promise ∷ q.key ∷ (q.files ++ q.log ∷ [])
+names_until (Record q) input = []
+names_until (Answer q) LogInput = q.key ∷ q.log ∷ []
+names_until (Answer q) input = q.key ∷ []
 
 -- The files that were asked for where this refuses: none after the refused one.
 abbrev pub names_asked : Request → Refusal → List (List ℕ)
@@ -137,6 +179,7 @@ names_asked request (NoFile input) = names_until request input
 names_asked request (Limit input found) = names_until request input
 names_asked request (Malformed input place) = names_until request input
 names_asked request (command.Refused fact) = read_names request
+names_asked request (Prevented fact) = read_names request
 
 -- The files that were read: not one that is absent or past its limit.
 abbrev pub names_read : Request → Refusal → List (List ℕ)
@@ -144,18 +187,42 @@ names_read request (NoFile input) = names_before request input
 names_read request (Limit input found) = names_before request input
 names_read request (Malformed input place) = names_until request input
 names_read request (command.Refused fact) = read_names request
+names_read request (Prevented fact) = read_names request
 
--- The step asks for a file of the first names, or reads one of the second.
-abbrev pub AsksAndReads : (asked read : List (List ℕ)) → Action → Type 0
-AsksAndReads asked read (Ask name) = IsAmong name asked
-AsksAndReads asked read (Read name size) = IsAmong name read
-AsksAndReads asked read (Cut name len) = ⊥
-AsksAndReads asked read (Write name at bytes) = ⊥
-AsksAndReads asked read (Sync name) = ⊥
+-- The log that was synced: none that is absent or past its limit, and none where a file before it is refused.
+abbrev pub names_synced : Request → Refusal → List (List ℕ)
+names_synced request (Malformed LogInput place) = log_names request
+names_synced request (Prevented fact) = log_names request
+names_synced request other = []
+
+-- the fact is one that a turn meets, when the log is written
+abbrev pub is_met_by_a_turn : LogFact → Bool
+is_met_by_a_turn (KeySpent spent) = true
+is_met_by_a_turn (LongLog found) = true
+is_met_by_a_turn other = false
+
+abbrev pub is_met_late : Refusal → Bool
+is_met_late (Prevented fact) = is_met_by_a_turn fact
+is_met_late other = false
+
+-- The files that were written: the log, where a turn meets what refuses.
+abbrev pub names_written : Request → Refusal → List (List ℕ)
+names_written request refusal = if is_met_late refusal then written_names request else []
+
+-- The step asks for a file of the first names, reads one of the second, syncs one of the third or fourth, or writes one
+-- of the fourth.
+abbrev pub Permitted : (asked read synced written : List (List ℕ)) → Action → Type 0
+Permitted asked read synced written (Ask name) = IsAmong name asked
+Permitted asked read synced written (Read name size) = IsAmong name read
+Permitted asked read synced written (Cut name len) = IsAmong name written
+Permitted asked read synced written (Write name at bytes) = IsAmong name written
+Permitted asked read synced written (Sync name) = IsAmong name (synced ++ written)
 
 -- what may have been done where this refuses
 abbrev pub Permits : Request → Refusal → Action → Type 0
-Permits request refusal = AsksAndReads (names_asked request refusal) (names_read request refusal)
+Permits request refusal =
+    Permitted (names_asked request refusal) (names_read request refusal) (names_synced request refusal)
+    (names_written request refusal)
 
 -- ---- endings
 
@@ -192,6 +259,22 @@ pub record LeavesFiles (old new : Disk) : Type 0 where
   pub told : Unchanged old.told new.told
   pub writes : new.write_faults ≡ old.write_faults
   pub only : OnlyBy IsRead old new
+
+-- What a plan gave isn't a refusal that a turn meets.
+abbrev pub NotMetLate : Result Ending (Halt Refusal) → Type 0
+NotMetLate result = (refusal : Refusal) → result ≡ Err (Refused refusal) → is_met_late refusal ≡ false
+
+abbrev pub IsReadOrSync : (synced : List (List ℕ)) → Action → Type 0
+IsReadOrSync synced (Ask name) = Unit {0}
+IsReadOrSync synced (Read name size) = Unit {0}
+IsReadOrSync synced (Cut name len) = ⊥
+IsReadOrSync synced (Write name at bytes) = ⊥
+IsReadOrSync synced (Sync name) = IsAmong name synced
+
+-- No file holds anything else than before: each step asked for a size, read, or synced one of these.
+pub record LeavesContents (synced : List (List ℕ)) (old new : Disk) : Type 0 where
+  pub holds : option_map (λ t. t.holds) new.told ≡ option_map (λ t. t.holds) old.told
+  pub only : OnlyBy (IsReadOrSync synced) old new
 
 -- A key was got from its seed file, and after that the key file was cut to nothing, written and synced, and each of
 -- these went well.

@@ -1,5 +1,5 @@
--- What the program does: from its words to a plan over files, which gives a status and a text.
-use Rattle.std.specs.Prelude.{ℕ, nat_le, if◌then◌else◌, List, [], ◌∷◌, Option, None, Some, Result, Ok, Err, codes}
+-- What the program does with files: its inputs, refusals and endings, and the plans of `check`, `audit` and `keygen`.
+use Rattle.std.specs.Prelude.{ℕ, nat_le, if◌then◌else◌, List, [], ◌∷◌, ◌++◌, Option, None, Some, Result, Ok, Err, codes}
 use Rattle.std.specs.Fmt.{decimal}
 use Rattle.hex.specs.Hex.{encode_lower}
 use Rattle.nr_spec_log.specs.Authenticator.{Authenticator, auths_of}
@@ -8,6 +8,9 @@ use Rattle.nr_spec_history.specs.Conflicts.{Period}
 use Rattle.nr_spec_history.specs.KeyFiles.{Key, seed_of, key_file, key_root}
 use Rattle.nr_rule_syntax.specs.Printing.{file_text}
 use Rattle.nr_spec_history.specs.Lines.{line}
+use Rattle.nr_spec_steps.specs.Steps.{Spent}
+use Rattle.nr_spec_steps.specs.Telling.{most_raw}
+use Rattle.nr_spec_store.specs.LogFile.{most_log}
 use Rattle.nr_spec_report.specs.Claims.{Claim}
 use Rattle.nr_spec_outcome.specs.Report.{Report, claims_of}
 use Rattle.nr_spec_outcome.specs.Lines.{report_text}
@@ -17,7 +20,7 @@ use Rattle.nr_spec_truth.specs.Truths.{meant}
 use Rattle.nr_spec_plans.specs.Disk.{Fault, ReadFault, WriteFault, Memory}
 use Rattle.nr_spec_plans.specs.Plans.{Plan, Done, Refuse, Room, act, want, Ask, Read, save, ◌>>=◌}
 use Rattle.nr_spec_program.specs.Promises.{PromiseFile, promise_of, audited_by}
-use Rattle.nr_spec_commands.specs.Words.{AuditRequest, CheckRequest, KeygenRequest, Request, Audit, Keygen, Check, request_in}
+use Rattle.nr_spec_commands.specs.Words.{AuditRequest, CheckRequest, KeygenRequest}
 
 -- ---- input files
 
@@ -26,6 +29,10 @@ pub data Input : Type 0 where
   AnswerInput : Input
   AuthsInput : Input
   SeedInput : Input
+  KeyInput : Input
+  LogInput : Input
+  -- the MRT files, numbered from 1
+  MrtInput : (number : ℕ) → Input
 
 -- the word for it in the lines that the program prints
 abbrev pub input_name : Input → List ℕ
@@ -33,6 +40,9 @@ input_name PromiseInput = codes "promise"
 input_name AnswerInput = codes "answer"
 input_name AuthsInput = codes "auths"
 input_name SeedInput = codes "seed"
+input_name KeyInput = codes "key"
+input_name LogInput = codes "log"
+input_name (MrtInput number) = codes "mrt" ++ decimal number
 
 -- its greatest size in bytes
 abbrev pub input_limit : Input → ℕ
@@ -40,8 +50,28 @@ input_limit PromiseInput = 1048576
 input_limit AnswerInput = 2147483647
 input_limit AuthsInput = 1073741824
 input_limit SeedInput = 1048576
+input_limit KeyInput = 1048576
+input_limit LogInput = most_log
+input_limit (MrtInput number) = 2147483647
 
 -- ---- refusals
+
+-- what refuses a recording, or an answer of a log
+pub data LogFact : Type 0 where
+  -- the key or the log is of another AS than the promise file, or the log than the key
+  OtherNetwork : (found : ℕ) (wanted : ℕ) → LogFact
+  -- the key's tree has another root than the log
+  OtherRoot : (found : List ℕ) (wanted : List ℕ) → LogFact
+  -- no entry has room for a message of this length
+  LongMessage : (found : ℕ) → LogFact
+  -- a COMMIT is due for which the key has no leaf
+  KeySpent : (spent : Spent) → LogFact
+  -- the log would be longer than it may be
+  LongLog : (found : ℕ) → LogFact
+  -- the answer would be longer than it may be
+  LongAnswer : (found : ℕ) → LogFact
+  -- the log has no COMMIT to the auditor
+  Unsealed : LogFact
 
 pub data Refusal : Type 0 where
   -- no file has the name
@@ -52,6 +82,8 @@ pub data Refusal : Type 0 where
   Malformed : (input : Input) (place : ℕ) → Refusal
   -- what the files say refuses the audit
   Refused : (fact : Fact) → Refusal
+  -- what the files say refuses the recording, or the answer
+  Prevented : (fact : LogFact) → Refusal
 
 -- ---- reading input files
 
@@ -96,6 +128,16 @@ fact_words (Head head chain) = codes "head" ∷ encode_lower head ∷ encode_low
 fact_words (Short head to) = codes "short" ∷ decimal head ∷ decimal to ∷ []
 fact_words (Promise found file) = codes "promise" ∷ digest_word found ∷ encode_lower file ∷ []
 
+abbrev pub log_fact_words : LogFact → List (List ℕ)
+log_fact_words (OtherNetwork found wanted) = codes "network" ∷ decimal found ∷ decimal wanted ∷ []
+log_fact_words (OtherRoot found wanted) = codes "key" ∷ encode_lower found ∷ encode_lower wanted ∷ []
+log_fact_words (LongMessage found) = codes "limit" ∷ codes "message" ∷ decimal found ∷ decimal most_raw ∷ []
+log_fact_words (KeySpent spent) = codes "key" ∷ decimal spent.commits ∷ decimal spent.leaves ∷ []
+log_fact_words (LongLog found) = codes "limit" ∷ codes "log" ∷ decimal found ∷ decimal most_log ∷ []
+log_fact_words (LongAnswer found) =
+    codes "limit" ∷ codes "answer" ∷ decimal found ∷ decimal (input_limit AnswerInput) ∷ []
+log_fact_words Unsealed = codes "unsealed" ∷ []
+
 unfoldable pub refusal_ending : Refusal → Ending
 refusal_ending (NoFile input) =
     record { status = 7; text = line (codes "refused" ∷ codes "nofile" ∷ input_name input ∷ []) }
@@ -108,6 +150,7 @@ refusal_ending (Limit input found) =
 refusal_ending (Malformed input place) =
     record { status = 3; text = line (codes "malformed" ∷ input_name input ∷ decimal place ∷ []) }
 refusal_ending (Refused fact) = record { status = 7; text = line (codes "refused" ∷ fact_words fact) }
+refusal_ending (Prevented fact) = record { status = 7; text = line (codes "refused" ∷ log_fact_words fact) }
 
 -- 1 where something is claimed
 abbrev pub report_status : List Claim → ℕ
@@ -195,18 +238,3 @@ keygen_plan q = do
   room ← want
   saved ← save q.key (key_file key)
   Done (key_ending key)
-
--- the table of commands
-unfoldable pub plan_of : Request → Work Ending
-plan_of (Audit q) = audit_plan q
-plan_of (Keygen q) = keygen_plan q
-plan_of (Check q) = check_plan q
-
--- what a request asks to be done, or the usage
-abbrev pub plan_in : Option Request → Work Ending
-plan_in None = Done usage_ending
-plan_in (Some request) = plan_of request
-
--- what is done for the words
-abbrev pub plan_for : List (List ℕ) → Work Ending
-plan_for words = Room (plan_in (request_in words))

@@ -1,0 +1,5 @@
+pub mod Events
+pub mod Steps
+pub mod Turns
+pub mod Telling
+pub mod Heads
