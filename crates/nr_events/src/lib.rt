@@ -1,0 +1,6 @@
+//! What a recorder is told.
+#![tactic(auto)]
+
+mod event;
+
+pub use event::Event;

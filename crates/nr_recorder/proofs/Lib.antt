@@ -1,0 +1,9 @@
+pub mod Asked
+pub mod Booking
+pub mod Commits
+pub mod Listing
+pub mod Passing
+pub mod Steps
+pub mod Tips
+pub mod Waiting
+pub mod Whole

@@ -1,0 +1,6 @@
+pub mod Answering
+pub mod Books
+pub mod Kept
+pub mod Speaking
+pub mod Stepping
+pub mod Views
