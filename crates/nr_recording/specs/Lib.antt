@@ -1,0 +1,4 @@
+pub mod Files
+pub mod Merges
+pub mod Recordings
+pub mod Views
