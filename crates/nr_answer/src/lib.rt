@@ -10,8 +10,10 @@ mod entries;
 mod fields;
 mod opening;
 mod statement;
+mod writing;
 
 pub use answer::Answer;
 pub use auth::Auth;
 pub use auths::{AuthIter, Auths};
 pub use entries::Entries;
+pub use writing::{WriteError, write_answer};

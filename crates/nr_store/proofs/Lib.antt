@@ -6,3 +6,4 @@ pub mod Owned
 pub mod Appended
 pub mod Opening
 pub mod Closing
+pub mod Fits

@@ -4,7 +4,7 @@ ghost use Rattle.std.specs.Prelude.{◌≡◌, ◌≤◌, ◌+◌, ◌++◌, ◌
 ghost use Rattle.nr_spec_wire.specs.Reading.{IsBytes};
 ghost use Rattle.nr_spec_plans.specs.Disk.{Told, bytes_of};
 ghost use Rattle.nr_spec_plans.specs.Plans.{Runs};
-ghost use Rattle.nr_spec_log.specs.Answer.{last_time};
+ghost use Rattle.nr_spec_log.specs.Answer.{AreEntriesFrom, last_time};
 ghost use Rattle.nr_spec_store.specs.LogFile.{IsLog, MayFollow, batch, log_of, most_log, spelled};
 ghost use Rattle.nr_spec_store.specs.StorePlans.{append_plan, birth_plan, load_plan, understood};
 ghost use Rattle.nr_chain.specs.Views.{entry_of};
@@ -169,11 +169,13 @@ impl Store {
         self.root
     }
 
-    /// The entries, in order. They borrow the store's bytes.
+    /// The entries, in order. They borrow the store's bytes, and their times never run back.
     pub fn entries(&self) -> StoreEntries<'_>
-        ensures { result ≡ self.now.entries }
+        ensures value { result ≡ self.now.entries }
+        ensures fit { AreEntriesFrom 0 result }
+        ensures few { length result ≤ most_log }
     {
-        let mut beyond = Cursor::new(&self.bytes);
+        let mut beyond = Cursor::new(bytes_in(&self.bytes));
         match read_front(&mut beyond) {
             Ok(_) => {}
             Err(_) => unreachable!(),
