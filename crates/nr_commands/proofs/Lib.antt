@@ -1,3 +1,2 @@
-pub mod PlanSteps
 pub mod Judging
 pub mod ReportLemmas

@@ -7,14 +7,6 @@ use Rattle.nr_spec_outcome.specs.Lines.{report_lines}
 use Rattle.nr_lamport.specs.declared.seed.Seed.{Seed}
 use Rattle.nr_requests.specs.declared.key_request.KeygenRequest.{KeygenRequest}
 use Rattle.nr_spec_program.specs.Command as command
-use Rattle.nr_commands.specs.declared.ending.Ending as declared_ending
-use Rattle.nr_commands.specs.declared.ending.Fixed as declared_fixed
-
-abbrev pub ending_of : declared_ending.Ending → command.Ending
-ending_of e = record { status = e.status; text = e.text.items }
-
-abbrev pub fixed_of : declared_fixed.Fixed → command.Ending
-fixed_of e = record { status = e.status; text = e.text.now }
 
 -- the key of a request with a seed
 abbrev pub key_of : KeygenRequest → Seed → Key

@@ -1,3 +1,2 @@
-pub mod Views
 pub mod Endings
-pub mod Nested
+pub mod Unaudited

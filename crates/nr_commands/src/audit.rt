@@ -6,18 +6,18 @@ ghost use Rattle.nr_spec_program.specs.Promises.{audited_by};
 ghost use Rattle.nr_spec_program.specs.Command.{audit_plan, judged};
 ghost use Rattle.nr_evidence.specs.Views.{period_of};
 ghost use Rattle.nr_audit.specs.Views.{audited_of};
-ghost use Rattle.nr_commands.specs.Views.{Does, Judges as Settled, promise_file_of};
+ghost use Rattle.nr_commands.specs.Unaudited.{unaudited_of};
+ghost use Rattle.nr_command_parts.specs.Views.{Does, Judges as Settled, promise_file_of};
 ghost use Rattle.nr_requests.specs.Views.{audit_request_of};
-ghost use Rattle.nr_commands.specs.Endings.{ending_of};
+ghost use Rattle.nr_command_parts.specs.Endings.{ending_of};
 
-use crate::ending::Ending;
-use crate::input::Input;
-use crate::promise_file::PromiseFile;
-use crate::reading::{read_answer, read_auths, read_input, read_promise};
-use crate::refusal::{Fact, Refusal, Stop};
 use crate::report::report_ending;
 use nr_answer::{Answer, Auths};
-use nr_audit::Audited;
+use nr_audit::{Audited, Refusal as Unaudited};
+use nr_command_parts::{
+    Ending, Fact, Input, PromiseFile, Refusal, Stop, read_answer, read_auths, read_input,
+    read_promise,
+};
 use nr_discipline::FileNumbers;
 use nr_ports::Files;
 use nr_requests::AuditRequest;
@@ -44,6 +44,23 @@ fn audited_by<'a>(promise: &'a PromiseFile) -> Audited<'a>
     }
 }
 
+// Why an audit that gives no report ends a command.
+fn unaudited(fault: Unaudited) -> Stop
+    ensures { result ≡ unaudited_of fault }
+{
+    match fault {
+        Unaudited::Network { answer, promise } => Stop::from(Fact::Network {
+            found: answer,
+            wanted: promise,
+        }),
+        Unaudited::Unsigned => Stop::from(Fact::Unsigned),
+        Unaudited::Head { head, chain } => Stop::from(Fact::Head { head, chain }),
+        Unaudited::Short { head, to } => Stop::from(Fact::Short { head, to }),
+        Unaudited::Promise { found, file } => Stop::from(Fact::Promise { found, file }),
+        Unaudited::Memory => Stop::Memory,
+    }
+}
+
 // What an answer shows by a promise file, whose judge counts on a ledger of its own.
 #[tactic(auto, using(crate::proofs::Judging::one_known, crate::proofs::Judging::one_few))]
 fn judge_on<L: Ledger>(
@@ -67,7 +84,7 @@ fn judge_on<L: Ledger>(
     let texts = [&promise.says];
     let judge = Judges { typed: &texts };
     let mut steps = Steps::<L>::new(blank);
-    let report = nr_audit::audit(
+    let report = match nr_audit::audit(
         alloc,
         &request.root,
         &files,
@@ -76,7 +93,10 @@ fn judge_on<L: Ledger>(
         &request.period,
         &judge,
         &mut steps,
-    )?;
+    ) {
+        Ok(report) => report,
+        Err(fault) => return Err(unaudited(fault)),
+    };
     Ok(report_ending(alloc, &files, &report, auths)?)
 }
 
@@ -95,7 +115,7 @@ fn judge(
 }
 
 /// What the request gives: the report, or the first thing that stops it.
-#[tactic(auto, using(nr_spec_plans::proofs::PlanLemmas::planning, crate::proofs::PlanSteps::settling), unfolding(nr_spec_program::specs::Command::audit_plan, nr_spec_plans::specs::Plans::Runs, nr_spec_plans::specs::Plans::followed_by))]
+#[tactic(auto, using(nr_spec_plans::proofs::PlanLemmas::planning, nr_command_parts::proofs::PlanSteps::settling), unfolding(nr_spec_program::specs::Command::audit_plan, nr_spec_plans::specs::Plans::Runs, nr_spec_plans::specs::Plans::followed_by))]
 pub fn audit<F: Files>(
     alloc: Global,
     files: &mut F,

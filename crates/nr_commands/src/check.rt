@@ -1,13 +1,11 @@
 //! The command `check`: the canonical text of a promise file.
 
 ghost use Rattle.nr_spec_program.specs.Command.{check_plan};
-ghost use Rattle.nr_commands.specs.Views.{Does};
+ghost use Rattle.nr_command_parts.specs.Views.{Does};
 ghost use Rattle.nr_requests.specs.Views.{check_request_of};
-ghost use Rattle.nr_commands.specs.Endings.{ending_of};
+ghost use Rattle.nr_command_parts.specs.Endings.{ending_of};
 
-use crate::ending::Ending;
-use crate::reading::read_promise;
-use crate::refusal::Stop;
+use nr_command_parts::{Ending, Stop, read_promise};
 use nr_ports::Files;
 use nr_requests::CheckRequest;
 use nr_rule_syntax::print;

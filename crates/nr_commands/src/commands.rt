@@ -1,21 +1,21 @@
 //! The table of commands.
 
-ghost use Rattle.nr_spec_program.specs.Command.{plan_of};
-ghost use Rattle.nr_commands.specs.Views.{Does};
+ghost use Rattle.nr_spec_program.specs.Table.{plan_of};
+ghost use Rattle.nr_command_parts.specs.Views.{Does};
 ghost use Rattle.nr_requests.specs.Views.{request_of};
-ghost use Rattle.nr_commands.specs.Endings.{ending_of};
+ghost use Rattle.nr_command_parts.specs.Endings.{ending_of};
 
 use crate::audit::audit;
 use crate::check::check_promise;
-use crate::ending::Ending;
 use crate::keygen::keygen;
-use crate::refusal::Stop;
+use nr_command_parts::{Ending, Stop};
+use nr_log_commands::{answer, record_events};
 use nr_ports::Files;
 use nr_requests::Request;
 use std::alloc::Global;
 
 /// What a request gives: its ending, or the first thing that stops it.
-#[tactic(auto, unfolding(nr_spec_program::specs::Command::plan_of))]
+#[tactic(auto, unfolding(nr_spec_program::specs::Table::plan_of))]
 pub fn perform<F: Files>(
     alloc: Global,
     files: &mut F,
@@ -27,5 +27,7 @@ pub fn perform<F: Files>(
         Request::Audit(audit_request) => audit(alloc, files, audit_request),
         Request::Keygen(keygen_request) => keygen(alloc, files, keygen_request),
         Request::Check(check_request) => check_promise(alloc, files, check_request),
+        Request::Record(record_request) => record_events(alloc, files, record_request),
+        Request::Answer(answer_request) => answer(alloc, files, answer_request),
     }
 }

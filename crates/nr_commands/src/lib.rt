@@ -4,16 +4,7 @@
 mod audit;
 mod check;
 mod commands;
-mod ending;
-mod input;
 mod keygen;
-mod promise_file;
-mod reading;
-mod refusal;
 mod report;
-mod writing;
 
 pub use commands::perform;
-pub use ending::{Ending, Fixed, out_of_memory, read_fault, refused, usage, write_fault};
-pub use input::Input;
-pub use refusal::{Fact, Refusal, Stop};

@@ -13,12 +13,13 @@ ghost use Rattle.nr_spec_program.specs.Command.{report_ending};
 ghost use Rattle.nr_answer.specs.Views.{auth_of};
 ghost use Rattle.nr_audit.specs.Views.{audited_of, marked, report_of, wrong_of};
 ghost use Rattle.nr_runs.specs.Views.{run_of, runs_in};
-ghost use Rattle.nr_commands.specs.Endings.{Reports, ending_of};
+ghost use Rattle.nr_command_parts.specs.Endings.{ending_of};
+ghost use Rattle.nr_commands.specs.Endings.{Reports};
 
-use crate::ending::Ending;
 use nr_answer::{Auth, Auths};
 use nr_audit::{Audited, Report, WrongEntry};
 use nr_bytes::{Memory, put_bytes};
+use nr_command_parts::Ending;
 use nr_discipline::Cause;
 use nr_runs::Run;
 use std::alloc::{AllocError, Global};

@@ -3,12 +3,15 @@
 ghost use Rattle.std.specs.Prelude.{◌≡◌, map, option_map, IfOk};
 ghost use Rattle.std.specs.String.{string_bytes};
 ghost use Rattle.nr_words.specs.Views.{given_by};
-ghost use Rattle.nr_spec_commands.specs.Words.{audit_in, audit_request, check_in, check_request, keygen_in, keygen_request, request_in, value_at};
+ghost use Rattle.nr_spec_commands.specs.Words.{answer_request, audit_in, audit_request, check_in, check_request, keygen_in, keygen_request, record_request, request_in};
 ghost use Rattle.nr_requests.specs.Views.{audit_request_of, check_request_of, keygen_request_of, request_of};
 
+use crate::answer_request::{ANSWER, AnswerRequest, answer_from};
 use crate::key_request::KeygenRequest;
 use crate::numbers::{number_between, number_of, period_from};
+use crate::record_request::{RECORD, RecordRequest, record_from};
 use crate::roots::root_in;
+use crate::values::value_of;
 use nr_bytes::Memory;
 use nr_chain::Digest;
 use nr_evidence::Period;
@@ -99,21 +102,13 @@ pub struct CheckRequest<'a> {
 }
 
 /// What the words ask for.
-#[derive(Clone, Copy, Debug)]
+#[derive(Debug, Drop)]
 pub enum Request<'a> {
     Audit(AuditRequest<'a>),
     Keygen(KeygenRequest<'a>),
     Check(CheckRequest<'a>),
-}
-
-// The value of the option at a place of the grammar.
-fn value_of<'a>(values: &Values<'a>, at: usize) -> Option<&'a str>
-    ensures { option_map (λ value. value.now) result ≡ value_at (given_by values.now) at }
-{
-    match values.options.get(at) {
-        Some(value) => *value,
-        None => None,
-    }
+    Record(RecordRequest<'a>),
+    Answer(AnswerRequest<'a>),
 }
 
 #[tactic(auto, unfolding(nr_spec_commands::specs::Words::audit_in))]
@@ -207,6 +202,30 @@ fn check_words<'a>(alloc: Global, words: &'a [String]) -> Result<Option<Request<
     }
 }
 
+fn record_words<'a>(alloc: Global, words: &'a [String]) -> Result<Option<Request<'a>>, Memory>
+    ensures { IfOk result (λ request. option_map request_of request ≡ record_request (map string_bytes words.now)) }
+{
+    let Some(values) = values_of(alloc, &RECORD, words)? else {
+        return Ok(None);
+    };
+    match record_from(values) {
+        None => Ok(None),
+        Some(recording) => Ok(Some(Request::Record(recording))),
+    }
+}
+
+fn answer_words<'a>(alloc: Global, words: &'a [String]) -> Result<Option<Request<'a>>, Memory>
+    ensures { IfOk result (λ request. option_map request_of request ≡ answer_request (map string_bytes words.now)) }
+{
+    let Some(values) = values_of(alloc, &ANSWER, words)? else {
+        return Ok(None);
+    };
+    match answer_from(&values) {
+        None => Ok(None),
+        Some(answer) => Ok(Some(Request::Answer(answer))),
+    }
+}
+
 /// What the words ask for. `None` exactly where they aren't taken.
 #[tactic(auto, unfolding(nr_spec_commands::specs::Words::request_in))]
 pub fn request_from<'a>(alloc: Global, words: &'a [String]) -> Result<Option<Request<'a>>, Memory>
@@ -223,6 +242,12 @@ pub fn request_from<'a>(alloc: Global, words: &'a [String]) -> Result<Option<Req
     }
     if command.as_str() == "check" {
         return check_words(alloc, words);
+    }
+    if command.as_str() == "record" {
+        return record_words(alloc, words);
+    }
+    if command.as_str() == "answer" {
+        return answer_words(alloc, words);
     }
     Ok(None)
 }

@@ -1,6 +1,6 @@
 use Rattle.std.proofs.Common.{◌∙◌}
 use Rattle.nr_evidence.specs.Views.{period_of}
-use Rattle.nr_commands.specs.Views.{promise_file_of}
+use Rattle.nr_command_parts.specs.Views.{promise_file_of}
 use Rattle.nr_commands.proofs.Judging.{form_refuses}
 use Rattle.nr_commands.proofs.audit.judge_on.Goals as goal
 

@@ -1,0 +1,5 @@
+pub mod Views
+pub mod Endings
+pub mod Nested
+pub mod Keys
+pub mod Logs

@@ -1,0 +1,4 @@
+pub mod Answering
+pub mod Walking
+pub mod Turning
+pub mod Recorded
