@@ -1,0 +1,4 @@
+pub mod Turns
+pub mod Preparing
+pub mod Whole
+pub mod Crashing

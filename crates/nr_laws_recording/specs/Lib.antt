@@ -1,0 +1,2 @@
+pub mod FirstTurns
+pub mod Recorded
