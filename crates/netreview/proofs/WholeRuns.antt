@@ -3,7 +3,8 @@ use Rattle.std.proofs.Common.{◌≡◌, ℕ, Option, None, Ok, Err, refl, sym, 
 use Rattle.nr_spec_plans.specs.Disk.{Disk, Tape, Memory}
 use Rattle.nr_spec_plans.specs.Plans.{Room, Faulted, Runs}
 use Rattle.nr_spec_commands.specs.Words.{Request}
-use Rattle.nr_spec_program.specs.Command.{Work, Ending, plan_in, usage_ending, fault_ending}
+use Rattle.nr_spec_program.specs.Command.{Work, Ending, usage_ending, fault_ending}
+use Rattle.nr_spec_program.specs.Table.{plan_in}
 use Rattle.nr_spec_program.specs.Running.{RunsTo, Delivers}
 
 -- memory ran out before anything else

@@ -11,6 +11,8 @@ mod check_tests;
 mod keygen_tests;
 #[cfg(test)]
 mod outside_tests;
+#[cfg(test)]
+mod record_tests;
 mod run;
 #[cfg(test)]
 mod tests;

@@ -2,13 +2,14 @@
 
 ghost use Rattle.std.specs.Prelude.{map};
 ghost use Rattle.std.specs.String.{string_bytes};
-ghost use Rattle.nr_spec_program.specs.Command.{plan_for, plan_of};
+ghost use Rattle.nr_spec_program.specs.Table.{plan_for, plan_of};
 ghost use Rattle.nr_requests.specs.Views.{request_of};
-ghost use Rattle.nr_commands.specs.Endings.{fixed_of};
+ghost use Rattle.nr_command_parts.specs.Endings.{fixed_of};
 ghost use Rattle.nr_spec_program.specs.Running.{Delivers, RunsTo};
 
 use nr_bytes::Memory;
-use nr_commands::{Fixed, Stop, out_of_memory, perform, read_fault, refused, usage, write_fault};
+use nr_command_parts::{Fixed, Stop, out_of_memory, read_fault, refused, usage, write_fault};
+use nr_commands::perform;
 use nr_ports::{Files, Sink, WriteFault, write_all};
 use nr_requests::{Request, request_from};
 use std::alloc::Global;
@@ -53,7 +54,8 @@ fn run_request<F: Files, S: Sink>(
 }
 
 /// Runs the command that the words after the program's name ask for, and answers the status. An audit finds the
-/// conflicts, the wrong entries and the broken promises of a whole log.
+/// conflicts, the wrong entries and the broken promises of a whole log; a recording appends turns to a log, and an
+/// answer is that log, signed.
 #[tactic(auto, unfolding(nr_spec_plans::specs::Plans::Runs, nr_spec_plans::specs::Plans::followed_by))]
 pub fn run<F: Files, S: Sink>(alloc: Global, words: &[String], files: &mut F, out: &mut S) -> u8
     ensures { RunsTo (plan_for (map string_bytes words.now))

@@ -1,39 +1,35 @@
 -- What was done before a refusal.
-use Rattle.std.proofs.Common.{◌≡◌, ℕ, List, Option, Some, None, Result, Ok, Err, refl, sym, subst, inl, inr}
+use Rattle.std.proofs.Common.{ℕ, List, Option, Some, None, Result, Ok, Err, refl, inl, inr}
 use Rattle.std.specs.Prelude.{nat_le}
 use Rattle.std.proofs.lemmas.Bool.{cases_Bool}
-use Rattle.nr_spec_plans.specs.Disk.{Disk, Tape}
-use Rattle.nr_spec_plans.specs.Plans.{Done, Room, followed_by, ◌>>=◌, want, save, Action, Ask, Read, Cut, Write, Sync, Halt, Runs}
-use Rattle.nr_spec_plans.specs.Plans as plans
-use Rattle.nr_spec_plans.specs.Laws.{Each, IsAmong}
-use Rattle.nr_spec_plans.specs.Steps.{OnlyBy}
+use Rattle.nr_spec_plans.specs.Plans.{Room, followed_by, ◌>>=◌, want, save, Action, Ask, Read}
 use Rattle.nr_spec_plans.specs.Order.{Refuses, Allows}
-use Rattle.nr_spec_plans.proofs.OrderLaws.{refused_by, refuses_followed, allows_followed}
+use Rattle.nr_spec_plans.proofs.OrderLaws.{refuses_followed, allows_followed}
 use Rattle.nr_spec_log.specs.Authenticator.{auths_of}
 use Rattle.nr_spec_log.specs.Answer.{AnswerFile, answer_of}
 use Rattle.nr_spec_history.specs.KeyFiles.{seed_of}
 use Rattle.nr_spec_promises.specs.Files as files
 use Rattle.nr_spec_outcome.specs.Report.{Report}
 use Rattle.nr_spec_outcome.specs.Outcome.{Fact}
-use Rattle.nr_spec_commands.specs.Words.{AuditRequest, CheckRequest, KeygenRequest, Request, Audit, Check, Keygen, request_in}
+use Rattle.nr_spec_commands.specs.Words.{AuditRequest, CheckRequest, KeygenRequest, Audit, Check, Keygen}
 use Rattle.nr_spec_program.specs.Promises.{PromiseFile, promise_of}
-use Rattle.nr_spec_program.specs.Command.{Input, PromiseInput, AnswerInput, AuthsInput, SeedInput, Work, Ending, Refusal, NoFile, Limit, Malformed, load, sized, well_formed, concluded, judged, promise_plan, check_plan, audit_plan, key_plan, keygen_plan, plan_of, plan_in, plan_for, input_limit}
+use Rattle.nr_spec_program.specs.Command.{Input, PromiseInput, AnswerInput, AuthsInput, SeedInput, Work, Ending, Refusal, NoFile, Limit, Malformed, load, sized, well_formed, concluded, judged, promise_plan, check_plan, audit_plan, key_plan, keygen_plan, input_limit}
+use Rattle.nr_spec_program.specs.Table.{plan_of}
 use Rattle.nr_spec_program.specs.Command as command
-use Rattle.nr_spec_program.specs.Running.{RunsTo}
 use Rattle.nr_spec_program.specs.Causes.{Permits}
-use Rattle.nr_laws_program.proofs.PlanKinds.{KindReads, key_each, load_each, promise_each, sized_each, well_formed_each}
+use Rattle.nr_laws_program.proofs.PlanKinds.{key_each, load_each, promise_each, sized_each, well_formed_each}
 
 -- ---- the refusals of each part of a plan
 
-sized_refuses : (P : Refusal → Type 0) (input : Input) (answer : Option ℕ) → P (NoFile input) → ((found : ℕ) → P (Limit input found)) → Refuses P (sized input answer)
+pub sized_refuses : (P : Refusal → Type 0) (input : Input) (answer : Option ℕ) → P (NoFile input) → ((found : ℕ) → P (Limit input found)) → Refuses P (sized input answer)
 sized_refuses P input None none limit = none
 sized_refuses P input (Some found) none limit = elim (cases_Bool (nat_le found (input_limit input))) [ inl is ↦ rw is tt | inr is ↦ rw is (limit found) ]
 
-load_refuses : (P : Refusal → Type 0) (input : Input) (name : List ℕ) → P (NoFile input) → ((found : ℕ) → P (Limit input found)) → Refuses P (load input name)
+pub load_refuses : (P : Refusal → Type 0) (input : Input) (name : List ℕ) → P (NoFile input) → ((found : ℕ) → P (Limit input found)) → Refuses P (load input name)
 unfolding load
 load_refuses P input name none limit = refuses_followed P _ _ (λ answer. tt) (λ answer. refuses_followed P _ _ (sized_refuses P input answer none limit) (λ size. λ bytes. tt))
 
-formed_refuses : {A : Type 0} (P : Refusal → Type 0) (input : Input) (found : Result A ℕ) → ((place : ℕ) → P (Malformed input place)) → Refuses P (well_formed input found)
+pub formed_refuses : {A : Type 0} (P : Refusal → Type 0) (input : Input) (found : Result A ℕ) → ((place : ℕ) → P (Malformed input place)) → Refuses P (well_formed input found)
 formed_refuses P input (Ok value) malformed = tt
 formed_refuses P input (Err place) malformed = malformed place
 
@@ -43,19 +39,19 @@ concluded_refuses P promises (Err fact) fact_has = fact_has fact
 
 -- ---- each part of a plan by itself
 
-sized_allows : (allowed : Refusal → Action → Type 0) (input : Input) (answer : Option ℕ) → Allows allowed (sized input answer)
+pub sized_allows : (allowed : Refusal → Action → Type 0) (input : Input) (answer : Option ℕ) → Allows allowed (sized input answer)
 sized_allows allowed input None = tt
 sized_allows allowed input (Some found) = elim (cases_Bool (nat_le found (input_limit input))) [ inl is ↦ rw is tt | inr is ↦ rw is tt ]
 
 -- the file is asked for where it is absent or too long
-load_allows : (allowed : Refusal → Action → Type 0) (input : Input) (name : List ℕ) → allowed (NoFile input) (Ask name) → ((found : ℕ) → allowed (Limit input found) (Ask name)) → Allows allowed (load input name)
+pub load_allows : (allowed : Refusal → Action → Type 0) (input : Input) (name : List ℕ) → allowed (NoFile input) (Ask name) → ((found : ℕ) → allowed (Limit input found) (Ask name)) → Allows allowed (load input name)
 unfolding load
 load_allows allowed input name none limit =
     allows_followed allowed _ _ (λ answer. (tt, tt))
     ((λ answer. refuses_followed (λ r. allowed r (Ask name)) _ _ (sized_refuses (λ r. allowed r (Ask name)) input answer none limit) (λ size. λ bytes. tt)), λ answer. tt)
     (λ answer. allows_followed allowed _ _ (sized_allows allowed input answer) (sized_each _ input answer) (λ size. λ bytes. (tt, tt)))
 
-formed_allows : {A : Type 0} (allowed : Refusal → Action → Type 0) (input : Input) (found : Result A ℕ) → Allows allowed (well_formed input found)
+pub formed_allows : {A : Type 0} (allowed : Refusal → Action → Type 0) (input : Input) (found : Result A ℕ) → Allows allowed (well_formed input found)
 formed_allows allowed input (Ok value) = tt
 formed_allows allowed input (Err place) = tt
 
@@ -63,7 +59,7 @@ concluded_allows : (allowed : Refusal → Action → Type 0) (promises : List fi
 concluded_allows allowed promises (Ok report) = tt
 concluded_allows allowed promises (Err fact) = tt
 
-promise_allows : (allowed : Refusal → Action → Type 0) (name : List ℕ) → allowed (NoFile PromiseInput) (Ask name) → ((found : ℕ) → allowed (Limit PromiseInput found) (Ask name))
+pub promise_allows : (allowed : Refusal → Action → Type 0) (name : List ℕ) → allowed (NoFile PromiseInput) (Ask name) → ((found : ℕ) → allowed (Limit PromiseInput found) (Ask name))
     → ((place : ℕ) → allowed (Malformed PromiseInput place) (Ask name)) → ((size place : ℕ) → allowed (Malformed PromiseInput place) (Read name size)) → Allows allowed (promise_plan name)
 unfolding promise_plan
 promise_allows allowed name none limit asked read =
@@ -119,7 +115,7 @@ auths_asked q = record { malformed = λ place. inr (inr (inl refl)); fact = λ f
 auths_read : (q : AuditRequest) (size : ℕ) → OfAuths (λ r. Permits (Audit q) r (Read q.auths size))
 auths_read q size = record { malformed = λ place. inr (inr (inl refl)); fact = λ fact. inr (inr (inl refl)) }
 
-audit_allows : (q : AuditRequest) → Allows (Permits (Audit q)) (plan_of (Audit q))
+pub audit_allows : (q : AuditRequest) → Allows (Permits (Audit q)) (plan_of (Audit q))
 unfolding plan_of audit_plan
 audit_allows q =
     allows_followed (Permits (Audit q)) _ _ (promise_allows (Permits (Audit q)) q.promise (inl refl) (λ found. inl refl) (λ place. inl refl) (λ size place. inl refl))
@@ -147,7 +143,7 @@ audit_allows q =
 
 -- ---- the other requests
 
-check_allows : (q : CheckRequest) → Allows (Permits (Check q)) (plan_of (Check q))
+pub check_allows : (q : CheckRequest) → Allows (Permits (Check q)) (plan_of (Check q))
 unfolding plan_of check_plan
 check_allows q =
     allows_followed (Permits (Check q)) _ _ (promise_allows (Permits (Check q)) q.promise (inl refl) (λ found. inl refl) (λ place. inl refl) (λ size place. inl refl))
@@ -168,18 +164,7 @@ key_allows q =
     (λ bytes. allows_followed (Permits (Keygen q)) _ _ (formed_allows (Permits (Keygen q)) SeedInput (seed_of bytes)) (well_formed_each _ SeedInput (seed_of bytes)) (λ seed. tt))
 
 -- nothing refuses after the key is there
-keygen_allows : (q : KeygenRequest) → Allows (Permits (Keygen q)) (plan_of (Keygen q))
+pub keygen_allows : (q : KeygenRequest) → Allows (Permits (Keygen q)) (plan_of (Keygen q))
 unfolding plan_of keygen_plan save followed_by
 keygen_allows q =
     allows_followed (Permits (Keygen q)) (key_plan q) _ (key_allows q) (key_each _ q (record { ask = λ key. λ a b c. tt; read = λ size. λ key. λ a b c. tt })) (λ key. λ a. (λ b c. tt, λ b. (λ c. tt, λ c. (tt, tt))))
-
-request_allows : (request : Request) → Allows (Permits request) (plan_of request)
-request_allows (Audit q) = audit_allows q
-request_allows (Keygen q) = keygen_allows q
-request_allows (Check q) = check_allows q
-
-pub run_refused_by : (words : List (List ℕ)) (request : Request) (refusal : Refusal) (old new : Disk) (before after : Tape) (status : ℕ) → request_in words ≡ Some request → (run : RunsTo (plan_for words) old new before after status)
-    → run.result ≡ Err (plans.Refused refusal) → OnlyBy (Permits request refusal) old new
-run_refused_by words request refusal old new before after status is run refused =
-    refused_by (Permits request) (Room (plan_of request)) old new refusal (request_allows request)
-    (subst (λ (r : Option Request). Runs (Room (plan_in r)) old new (Err (plans.Refused refusal))) is (subst (λ (r : Result Ending (Halt Refusal)). Runs (plan_for words) old new r) refused run.runs))

@@ -1,4 +1,12 @@
+pub mod Names
+pub mod Phases
+pub mod LogKinds
 pub mod PlanKinds
+pub mod RecordPlans
 pub mod StatusLaws
 pub mod FileLaws
 pub mod FileOrder
+pub mod RecordOrder
+pub mod Parts
+pub mod Outcomes
+pub mod ReplyLaws

@@ -1,8 +1,8 @@
 -- What kinds of steps this program's plans have, and where they end.
-use Rattle.std.proofs.Common.{◌≡◌, ◌≢◌, ℕ, ◌≤◌, List, [], ◌∷◌, Option, Some, None, Result, Ok, Err, refl, sym, ap, inl, inr, ◌⊎◌, arith}
+use Rattle.std.proofs.Common.{◌≡◌, ℕ, ◌≤◌, List, [], ◌∷◌, Option, Some, None, Result, Ok, Err, refl, sym, ap, inl, inr, ◌⊎◌, arith}
 use Rattle.std.specs.Prelude.{nat_le}
 use Rattle.std.proofs.lemmas.Bool.{cases_Bool}
-use Rattle.nr_spec_plans.specs.Plans.{Done, Room, Refuse, Act, followed_by, ◌>>=◌, want, save, Action, Ask, Read, Cut, Write, Sync}
+use Rattle.nr_spec_plans.specs.Plans.{Done, followed_by, want, save, Action, Ask, Read, Cut, Write, Sync}
 use Rattle.nr_spec_plans.specs.Laws.{Each, Ends}
 use Rattle.nr_spec_plans.proofs.PlanLaws.{each_followed, ends_followed}
 use Rattle.nr_spec_log.specs.Authenticator.{Authenticator, auths_of}
@@ -15,8 +15,10 @@ use Rattle.nr_spec_outcome.specs.Outcome.{Fact, outcome, promise_files}
 use Rattle.nr_spec_truth.specs.Truths.{meant}
 use Rattle.nr_spec_program.specs.Promises as program
 use Rattle.nr_spec_program.specs.Promises.{promise_of, audited_by}
-use Rattle.nr_spec_commands.specs.Words.{AuditRequest, CheckRequest, KeygenRequest, Request, Audit, Check, Keygen}
-use Rattle.nr_spec_program.specs.Command.{Input, Work, Ending, Refusal, NoFile, Limit, Malformed, refusal_ending, load, sized, well_formed, concluded, judged, promise_plan, check_plan, audit_plan, key_plan, keygen_plan, plan_of, input_limit, promise_ending, report_ending, report_status, key_ending}
+use Rattle.nr_spec_commands.specs.Words.{AuditRequest, CheckRequest, KeygenRequest, Request, Answer, Audit, Check, Keygen, Record}
+use Rattle.nr_spec_program.specs.Command.{Input, Work, Ending, Refusal, NoFile, Limit, Malformed, Prevented, refusal_ending, load, sized, well_formed, concluded, judged, promise_plan, check_plan, audit_plan, key_plan, keygen_plan, input_limit, promise_ending, report_ending, report_status, key_ending}
+use Rattle.nr_spec_program.specs.Recording.{answer_plan, answered_ending, record_plan, recorded_ending}
+use Rattle.nr_spec_program.specs.Table.{plan_of}
 use Rattle.nr_spec_program.specs.Causes.{EndOf}
 use Rattle.nr_spec_program.specs.Command as command
 
@@ -81,11 +83,19 @@ audit_ends q promise answer auths = by_outcome (outcome q.root (audited_by promi
     by_outcome (Err fact) is = tt
 
 pub request_ends : (request : Request) → Ends (EndOf request) (plan_of request)
-unfolding plan_of check_plan audit_plan keygen_plan
+unfolding plan_of check_plan audit_plan keygen_plan record_plan answer_plan
 request_ends (Check q) = ends_followed (EndOf (Check q)) _ _ (λ promise. ends_followed (EndOf (Check q)) want _ (λ room. (promise, refl)))
 request_ends (Audit q) =
     ends_followed (EndOf (Audit q)) _ _ (λ promise. ends_followed (EndOf (Audit q)) _ _ (λ answer_bytes. ends_followed (EndOf (Audit q)) _ _ (λ answer. ends_followed (EndOf (Audit q)) _ _ (λ auths_bytes. ends_followed (EndOf (Audit q)) _ _ (λ auths. audit_ends q promise answer auths)))))
 request_ends (Keygen q) = ends_followed (EndOf (Keygen q)) _ _ (λ key. ends_followed (EndOf (Keygen q)) want _ (λ room. ends_followed (EndOf (Keygen q)) _ _ (λ done. (key, refl))))
+request_ends (Record q) =
+    ends_followed (EndOf (Record q)) _ _ (λ promise. ends_followed (EndOf (Record q)) _ _ (λ key. ends_followed (EndOf (Record q)) want _ (λ room. ends_followed (EndOf (Record q)) _ _ (λ files. ends_followed (EndOf (Record q)) _ _ (λ found.
+    ends_followed (EndOf (Record q)) _ _ (λ key_network. ends_followed (EndOf (Record q)) _ _ (λ network. ends_followed (EndOf (Record q)) want _ (λ tree. ends_followed (EndOf (Record q)) _ _ (λ root. ends_followed (EndOf (Record q)) want _ (λ ready.
+    ends_followed (EndOf (Record q)) _ _ (λ fits. ends_followed (EndOf (Record q)) _ _ (λ log. ends_followed (EndOf (Record q)) _ _ (λ longer. ends_followed (EndOf (Record q)) want _ (λ told. (log, longer, (_, refl))))))))))))))))
+request_ends (Answer q) =
+    ends_followed (EndOf (Answer q)) _ _ (λ key. ends_followed (EndOf (Answer q)) _ _ (λ size. ends_followed (EndOf (Answer q)) _ _ (λ there. ends_followed (EndOf (Answer q)) _ _ (λ found.
+    ends_followed (EndOf (Answer q)) _ _ (λ network. ends_followed (EndOf (Answer q)) want _ (λ tree. ends_followed (EndOf (Answer q)) _ _ (λ root. ends_followed (EndOf (Answer q)) want _ (λ ready.
+    ends_followed (EndOf (Answer q)) _ _ (λ answer. ends_followed (EndOf (Answer q)) _ _ (λ bytes. ends_followed (EndOf (Answer q)) want _ (λ room. ends_followed (EndOf (Answer q)) _ _ (λ saved. (answer, refl)))))))))))))
 
 -- the statuses of endings
 claims_low : (claims : List Claim) → report_status claims ≤ 1
@@ -100,7 +110,7 @@ given : (x y : Ending) → (let work : Work Ending = Done x in work) ≡ Done y 
 given x y e = cc
 
 pub ends_low : (request : Request) (e : Ending) → EndOf request e → e.status ≤ 1
-unfolding promise_ending key_ending
+unfolding promise_ending key_ending recorded_ending answered_ending
 ends_low (Audit q) e (promise, answer, auths, is) =
     by_outcome (outcome q.root (audited_by promise ∷ []) (meant (promise.says ∷ [])) answer q.period auths) is
   where
@@ -109,6 +119,8 @@ ends_low (Audit q) e (promise, answer, auths, is) =
     by_outcome (Err fact) gave = absurd (let h = gave in cc)
 ends_low (Keygen q) e (key, is) = rw is (omega arith)
 ends_low (Check q) e (promise, is) = rw is (omega arith)
+ends_low (Record q) e (before, after, (skips, is)) = rw is (omega arith)
+ends_low (Answer q) e (answer, is) = rw is (omega arith)
 
 pub refusal_status : (refusal : Refusal) → ((refusal_ending refusal).status ≡ 3) ⊎ ((refusal_ending refusal).status ≡ 7)
 unfolding refusal_ending
@@ -116,3 +128,4 @@ refusal_status (NoFile input) = inr refl
 refusal_status (Limit input found) = inr refl
 refusal_status (Malformed input place) = inl refl
 refusal_status (command.Refused fact) = inr refl
+refusal_status (Prevented fact) = inr refl

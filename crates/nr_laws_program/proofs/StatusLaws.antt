@@ -5,9 +5,10 @@ use Rattle.nr_spec_plans.specs.Plans.{Room, Halt, Refused, Faulted, Runs}
 use Rattle.nr_spec_plans.specs.Laws.{CountsOne, fault_in, reads_after, writes_after}
 use Rattle.nr_spec_plans.proofs.PlanLaws.{counts_one, ends_so}
 use Rattle.nr_spec_commands.specs.Words.{Request, request_in}
-use Rattle.nr_spec_program.specs.Command.{Ending, Refusal, refusal_ending, fault_ending, plan_of, plan_in, plan_for, usage_ending}
+use Rattle.nr_spec_program.specs.Command.{Ending, Refusal, refusal_ending, fault_ending, usage_ending}
+use Rattle.nr_spec_program.specs.Table.{plan_of, plan_in, plan_for}
 use Rattle.nr_spec_program.specs.Running.{RunsTo, Concludes, Answers}
-use Rattle.nr_spec_program.specs.Causes.{Caused, Counts, EndOf, GaveEnding, GaveRefusal, RanOut, NoneRose, Answered, same}
+use Rattle.nr_spec_program.specs.Causes.{Caused, EndOf, GaveEnding, GaveRefusal, RanOut, Answered, same}
 use Rattle.nr_laws_program.proofs.PlanKinds.{request_ends, ends_low, refusal_status}
 
 -- what the status of an ending says of what ended the work

@@ -2,29 +2,38 @@
 
 ghost use Rattle.std.specs.Prelude.{◌≡◌, ◌≢◌, ◌⊎◌, ℕ, List, [], Option, Some, Ok, Err, option_map};
 ghost use Rattle.nr_spec_plans.specs.Disk.{Contents, Disk, Fault, Told, Tape};
-ghost use Rattle.nr_spec_plans.specs.Laws.{CountsOne, Each, IsAmong, IsLeftBy, Kept, Saved, Touches, Unchanged, fault_in, outcome};
+ghost use Rattle.nr_spec_plans.specs.Laws.{CountsOne, Each, IsAmong, IsLeftBy, Kept, Saved, Unchanged, fault_in, outcome};
 ghost use Rattle.nr_spec_plans.specs.Plans.{Refused};
 ghost use Rattle.nr_spec_plans.specs.Steps.{DoneBy, OnlyBy};
 ghost use Rattle.nr_spec_history.specs.KeyFiles.{Key, key_file};
-ghost use Rattle.nr_spec_commands.specs.Words.{Keygen, KeygenRequest, Request, request_in};
-ghost use Rattle.nr_spec_program.specs.Command.{Ending, Refusal, Work, fault_ending, key_plan, plan_for, plan_of};
+ghost use Rattle.nr_spec_log.specs.Answer.{AnswerFile, answer_file};
+ghost use Rattle.nr_spec_commands.specs.Words.{Answer, AnswerRequest, Keygen, KeygenRequest, Request, request_in};
+ghost use Rattle.nr_spec_program.specs.Command.{Ending, Refusal, Work, fault_ending, key_plan};
+ghost use Rattle.nr_spec_program.specs.Recording.{answered_ending};
+ghost use Rattle.nr_spec_program.specs.Table.{plan_for, plan_of};
 ghost use Rattle.nr_spec_program.specs.Running.{RunsTo};
 ghost use Rattle.nr_spec_program.specs.Causes.{
   Answered,
   Caused,
   EndsAs,
   EndsBy,
+  LeavesContents,
   LeavesFiles,
   NoneRose,
+  NotMetLate,
   OnlyTheSinkFails,
   Permits,
   SavesKey,
+  Touches,
   WroteNothing,
+  log_in,
+  log_names,
   read_in,
   read_names,
   written_in,
   written_names,
 };
+ghost use Rattle.nr_laws_program.specs.Replies.{IsReply, LeftByWriting, SavesAnswer};
 
 /// Each status has its cause: usage by the words alone, a fault by one count that rose by one, a report or a refusal by
 /// what the plan gave.
@@ -40,17 +49,20 @@ pub fn one_fault_ends_a_run()
         (run : RunsTo plan old new before after status) → CountsOne old new run.result }
 {}
 
-/// A command asks for the input files that its words name, and writes the output files that they name, and no others.
+/// A command asks for the input files that its words name, syncs the log that they name, and writes the output files
+/// that they name, and no others.
 pub fn commands_touch_what_they_name()
-    ensures { (request : Request) → Each (Touches (read_names request) (written_names request)) (plan_of request) }
+    ensures { (request : Request)
+        → Each (Touches (read_names request) (log_names request) (written_names request)) (plan_of request) }
 {}
 
-/// A run is made of steps that ask for and read the files that its words name for that, and write those that they name
-/// for that, and nothing is done after a step that failed.
+/// A run is made of steps that ask for and read the files that its words name for that, sync the log that they name, and
+/// write those that they name for that, and nothing is done after a step that failed.
 pub fn nothing_follows_a_fault()
     ensures { (words : List (List ℕ)) (old new : Disk) (before after : Tape) (status : ℕ)
         (run : RunsTo (plan_for words) old new before after status)
-        → DoneBy (Touches (read_in (request_in words)) (written_in (request_in words))) (fault_in run.result) old new }
+        → DoneBy (Touches (read_in (request_in words)) (log_in (request_in words)) (written_in (request_in words)))
+        (fault_in run.result) old new }
 {}
 
 /// After a fault, its line is all that the sink is offered.
@@ -60,30 +72,41 @@ pub fn a_fault_has_its_line()
         → fault_in run.result ≡ Err fault → run.ending ≡ fault_ending fault }
 {}
 
-/// A run whose words name no file for writing leaves all files as they were: no step of it writes.
+/// A run whose words name no file for writing, and no log, leaves all files as they were: no step of it writes.
 pub fn reading_changes_no_file()
     ensures { (words : List (List ℕ)) (old new : Disk) (before after : Tape) (status : ℕ)
-        → written_in (request_in words) ≡ [] → RunsTo (plan_for words) old new before after status
+        → written_in (request_in words) ≡ [] → log_in (request_in words) ≡ []
+        → RunsTo (plan_for words) old new before after status
         → LeavesFiles old new }
 {}
 
 /// The same runs end with 5 only where the sink fails.
 pub fn reading_fails_at_the_sink_alone()
     ensures { (words : List (List ℕ)) (old new : Disk) (before after : Tape) (status : ℕ)
-        → written_in (request_in words) ≡ [] → RunsTo (plan_for words) old new before after status
+        → written_in (request_in words) ≡ [] → log_in (request_in words) ≡ []
+        → RunsTo (plan_for words) old new before after status
         → OnlyTheSinkFails old new before after status }
 {}
 
-/// With another status than 0, 5 and 6, or an ending of such a status, no file has changed, and none was cut,
-/// written or synced.
+/// With another status than 0, 5 and 6, or an ending of such a status, a run whose words name no log has changed no
+/// file, and none was cut, written or synced.
 pub fn refusals_change_no_file()
     ensures { (words : List (List ℕ)) (old new : Disk) (before after : Tape) (status : ℕ)
-        (run : RunsTo (plan_for words) old new before after status)
+        → log_in (request_in words) ≡ [] → (run : RunsTo (plan_for words) old new before after status)
         → Answered WroteNothing run.ending status → LeavesFiles old new }
 {}
 
-/// A refusal leaves what comes after it undone: no file is asked for after one that is refused, and none is read
-/// that is absent or past its limit.
+/// With such a status or ending, and no refusal that a turn meets, every file holds what it held: none was cut or
+/// written, and none but the log was synced.
+pub fn refusals_change_no_contents()
+    ensures { (words : List (List ℕ)) (old new : Disk) (before after : Tape) (status : ℕ)
+        (run : RunsTo (plan_for words) old new before after status)
+        → Answered WroteNothing run.ending status → NotMetLate run.result
+        → LeavesContents (log_in (request_in words)) old new }
+{}
+
+/// A refusal leaves what comes after it undone: no file is asked for after one that is refused, none is read that is
+/// absent or past its limit, no log is synced that is, and none is written but where a turn meets what refuses.
 pub fn refusals_leave_later_files()
     ensures { (words : List (List ℕ)) (request : Request) (refusal : Refusal) (old new : Disk) (before after : Tape)
         (status : ℕ) → request_in words ≡ Some request → (run : RunsTo (plan_for words) old new before after status)
@@ -117,11 +140,49 @@ pub fn keygen_may_leave()
         × ((u : Told) × (new.told ≡ Some u) × IsLeftBy (key_file key) (t.holds q.key) (u.holds q.key))) }
 {}
 
-/// A run leaves every file as it was that its words don't name for writing, whatever came of the run.
+/// Where `answer` answers 0, or has that ending and the sink fails, the answer file was cut, written and synced,
+/// whatever the files tell.
+pub fn answer_saves_its_answer()
+    ensures { (words : List (List ℕ)) (q : AnswerRequest) (old new : Disk) (before after : Tape) (status : ℕ)
+        → request_in words ≡ Some (Answer q) → (run : RunsTo (plan_for words) old new before after status)
+        → Answered (λ s. s ≡ 0) run.ending status → SavesAnswer q old new }
+{}
+
+/// Where files tell what they hold, the answer file then holds the whole answer of the key and the log that they held,
+/// synced, and no other file holds anything else than before. The line has the first and the last entry of that answer.
+pub fn answer_leaves_its_answer()
+    ensures { (words : List (List ℕ)) (q : AnswerRequest) (old new : Disk) (before after : Tape) (status : ℕ) (t : Told)
+        → request_in words ≡ Some (Answer q) → old.told ≡ Some t
+        → (run : RunsTo (plan_for words) old new before after status) → Answered (λ s. s ≡ 0) run.ending status
+        → (answer : AnswerFile) × IsReply t.holds q answer × (run.ending ≡ answered_ending answer)
+        × ((u : Told) × (new.told ≡ Some u) × Saved q.out (answer_file answer) t u) }
+{}
+
+/// Whatever came of `answer`, every file holds what it held, or there is a whole answer of the key and the log that the
+/// files held, and every file but the answer file holds what it held, and that what writing this answer in whole may
+/// leave.
+pub fn answer_may_leave()
+    ensures { (words : List (List ℕ)) (q : AnswerRequest) (old new : Disk) (before after : Tape) (status : ℕ) (t : Told)
+        → request_in words ≡ Some (Answer q) → old.told ≡ Some t → RunsTo (plan_for words) old new before after status
+        → (option_map (λ t. t.holds) new.told ≡ option_map (λ t. t.holds) old.told)
+        ⊎ ((answer : AnswerFile) × IsReply t.holds q answer
+        × ((u : Told) × (new.told ≡ Some u) × LeftByWriting q.out (answer_file answer) t u)) }
+{}
+
+/// A run leaves every file as it was that its words name neither for writing nor as the log, whatever came of the run.
 pub fn runs_leave_other_files()
     ensures { (words : List (List ℕ)) (other : List ℕ) (old new : Disk) (before after : Tape) (status : ℕ)
+        → (IsAmong other (log_in (request_in words)) → ⊥)
         → (IsAmong other (written_in (request_in words)) → ⊥) → RunsTo (plan_for words) old new before after status
         → Kept other old.told new.told }
+{}
+
+/// A file that its words don't name for writing holds what it held, whatever came of the run: so does the log of an
+/// answer.
+pub fn runs_leave_other_contents()
+    ensures { (words : List (List ℕ)) (other : List ℕ) (old new : Disk) (before after : Tape) (status : ℕ)
+        → (IsAmong other (written_in (request_in words)) → ⊥) → RunsTo (plan_for words) old new before after status
+        → option_map (λ t. t.holds other) new.told ≡ option_map (λ t. t.holds other) old.told }
 {}
 
 /// Where the files tell what they hold, the ending is what the plan gives by that, or that of want of memory, or

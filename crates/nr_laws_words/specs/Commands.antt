@@ -1,7 +1,7 @@
 -- What the words of the command line ask for, by the items that they are.
 use Rattle.std.specs.Prelude.{◌≡◌, ◌∷◌, ℕ, List, Option, Some}
 use Rattle.nr_words.specs.Grammar.{Grammar, Values}
-use Rattle.nr_spec_commands.specs.Words.{Request, Audit, Keygen, Check, audit_grammar, audit_in, check_grammar, check_in, keygen_grammar, keygen_in}
+use Rattle.nr_spec_commands.specs.Words.{Request, Answer, Audit, Check, Keygen, Record, answer_grammar, answer_in, audit_grammar, audit_in, check_grammar, check_in, keygen_grammar, keygen_in, record_grammar, record_in}
 use Rattle.nr_laws_words.specs.Pairs.{Gives}
 
 -- The words are the command word and items, whose values are read as what the command is asked for.
@@ -17,3 +17,5 @@ abbrev pub Asks : List (List ℕ) → Request → Type 0
 Asks words (Audit q) = AsksBy audit_grammar audit_in words q
 Asks words (Keygen q) = AsksBy keygen_grammar keygen_in words q
 Asks words (Check q) = AsksBy check_grammar check_in words q
+Asks words (Record q) = AsksBy record_grammar record_in words q
+Asks words (Answer q) = AsksBy answer_grammar answer_in words q

@@ -2,7 +2,7 @@
 
 ghost use Rattle.std.specs.Prelude.{◌≡◌, ◌↔◌, ◌∷◌, ℕ, List, Some};
 ghost use Rattle.nr_words.specs.Grammar.{Values, values_in};
-ghost use Rattle.nr_spec_commands.specs.Words.{Request, audit_grammar, check_grammar, keygen_grammar, request_in};
+ghost use Rattle.nr_spec_commands.specs.Words.{Request, answer_grammar, audit_grammar, check_grammar, keygen_grammar, record_grammar, request_in};
 ghost use Rattle.nr_laws_words.specs.Commands.{Asks};
 ghost use Rattle.nr_laws_words.specs.Pairs.{Gives};
 
@@ -18,6 +18,12 @@ pub fn words_of_commands_are_pairs()
     ensures check { (words : List (List ℕ)) (values : Values)
         → (values_in check_grammar (check_grammar.command ∷ words) ≡ Some values)
         ↔ Gives check_grammar words values }
+    ensures recording { (words : List (List ℕ)) (values : Values)
+        → (values_in record_grammar (record_grammar.command ∷ words) ≡ Some values)
+        ↔ Gives record_grammar words values }
+    ensures answer { (words : List (List ℕ)) (values : Values)
+        → (values_in answer_grammar (answer_grammar.command ∷ words) ≡ Some values)
+        ↔ Gives answer_grammar words values }
 {}
 
 /// Words ask for something exactly where they are a command word and its options with their values, which are read

@@ -2,7 +2,7 @@ use Rattle.std.proofs.Common.{◌≡◌, ◌∙◌, ℕ, Bool, cond, true, false
 use Rattle.std.proofs.lemmas.Slice.Eq.{bytes_eq-Decides}
 use Rattle.nr_words.specs.Grammar.{Grammar, Values, values_in}
 use Rattle.nr_spec_wire.specs.Optional.{◌>>=◌}
-use Rattle.nr_spec_commands.specs.Words.{Request, Audit, Keygen, Check, audit_grammar, audit_in, audit_request, check_grammar, check_in, check_request, keygen_grammar, keygen_in, keygen_request, request_in}
+use Rattle.nr_spec_commands.specs.Words.{Request, Answer, Audit, Check, Keygen, Record, answer_grammar, answer_in, audit_grammar, audit_in, check_grammar, check_in, keygen_grammar, keygen_in, record_grammar, record_in, request_in}
 use Rattle.nr_laws_words.specs.Commands.{Asks, AsksBy}
 use Rattle.nr_laws_words.specs.Pairs.{is_clear}
 use Rattle.nr_laws_words.proofs.Theorem.{given, gives}
@@ -37,40 +37,39 @@ module _ {A : Type 0} (g : Grammar) (clear : is_clear g ≡ true) (read : Values
       ap (λ (v : Option Values). v >>= λ values. read values >>= λ x. Some (asked_for x)) (given g clear g.command a.others a.values a.gives)
       ∙ ap (λ (x : Option A). x >>= λ y. Some (asked_for y)) a.reads
 
+-- A command word is the next one of the table, or is looked for in the rest of it.
+by_word : {G : Type 0} (command name : List ℕ) (here others : Option Request) (request : Request) (b : Bool) → bytes_eq command name ≡ b
+    → (command ≡ name → here ≡ Some request → G) → (others ≡ Some request → G) → cond b here others ≡ Some request → G
+by_word command name here others request false e this rest same = rest same
+by_word command name here others request true e this rest same = this ((bytes_eq-Decides command name).0 e) same
+
+-- What a command is found to ask for is what its words ask for.
+asks_for : {A : Type 0} (g : Grammar) (clear : is_clear g ≡ true) (read : Values → Option A) (asked_for : A → Request)
+    → ((words : List (List ℕ)) (q : A) → AsksBy g read words q → Asks words (asked_for q))
+    → (command : List ℕ) (words : List (List ℕ)) (request : Request) → command ≡ g.command
+    → asked_in g clear read asked_for (command ∷ words) ≡ Some request → Asks (command ∷ words) request
+asks_for g clear read asked_for is command words request name same =
+    let f = found g clear read asked_for words request (ap (λ n. asked_in g clear read asked_for (n ∷ words)) (sym name) ∙ same) in
+    subst (λ (n : List ℕ). Asks (n ∷ words) request) (sym name) (subst (Asks (g.command ∷ words)) f.is (is _ _ f.asks))
+
 asks : (words : List (List ℕ)) (request : Request) → request_in words ≡ Some request → Asks words request
 unfolding request_in
 asks [] request is = absurd cc
-asks (command ∷ words) request is = by_audit (bytes_eq command (codes "audit")) refl is
-  where
-    by_check : (b : Bool) → bytes_eq command (codes "check") ≡ b → cond b (check_request (command ∷ words)) None ≡ Some request → Asks (command ∷ words) request
-    by_check false e bad = absurd cc
-    by_check true e same =
-        let name : command ≡ codes "check" = (bytes_eq-Decides command (codes "check")).0 e in
-        let f = found check_grammar refl check_in Check words request (ap (λ n. check_request (n ∷ words)) (sym name) ∙ same) in
-        subst (λ (n : List ℕ). Asks (n ∷ words) request) (sym name) (subst (Asks (codes "check" ∷ words)) f.is f.asks)
-
-    by_keygen : (b : Bool) → bytes_eq command (codes "keygen") ≡ b
-        → cond b (keygen_request (command ∷ words)) (cond (bytes_eq command (codes "check")) (check_request (command ∷ words)) None) ≡ Some request → Asks (command ∷ words) request
-    by_keygen false e same = by_check (bytes_eq command (codes "check")) refl same
-    by_keygen true e same =
-        let name : command ≡ codes "keygen" = (bytes_eq-Decides command (codes "keygen")).0 e in
-        let f = found keygen_grammar refl keygen_in Keygen words request (ap (λ n. keygen_request (n ∷ words)) (sym name) ∙ same) in
-        subst (λ (n : List ℕ). Asks (n ∷ words) request) (sym name) (subst (Asks (codes "keygen" ∷ words)) f.is f.asks)
-
-    by_audit : (b : Bool) → bytes_eq command (codes "audit") ≡ b
-        → cond b (audit_request (command ∷ words)) (cond (bytes_eq command (codes "keygen")) (keygen_request (command ∷ words)) (cond (bytes_eq command (codes "check")) (check_request (command ∷ words)) None)) ≡ Some request
-        → Asks (command ∷ words) request
-    by_audit false e same = by_keygen (bytes_eq command (codes "keygen")) refl same
-    by_audit true e same =
-        let name : command ≡ codes "audit" = (bytes_eq-Decides command (codes "audit")).0 e in
-        let f = found audit_grammar refl audit_in Audit words request (ap (λ n. audit_request (n ∷ words)) (sym name) ∙ same) in
-        subst (λ (n : List ℕ). Asks (n ∷ words) request) (sym name) (subst (Asks (codes "audit" ∷ words)) f.is f.asks)
+asks (command ∷ words) request is =
+    by_word command (codes "audit") _ _ request _ refl (asks_for audit_grammar refl audit_in Audit (λ w q a. a) command words request)
+    (by_word command (codes "keygen") _ _ request _ refl (asks_for keygen_grammar refl keygen_in Keygen (λ w q a. a) command words request)
+    (by_word command (codes "check") _ _ request _ refl (asks_for check_grammar refl check_in Check (λ w q a. a) command words request)
+    (by_word command (codes "record") _ _ request _ refl (asks_for record_grammar refl record_in Record (λ w q a. a) command words request)
+    (by_word command (codes "answer") _ _ request _ refl (asks_for answer_grammar refl answer_in Answer (λ w q a. a) command words request)
+    (λ bad. absurd cc))))) is
 
 asked_by : (words : List (List ℕ)) (request : Request) → Asks words request → request_in words ≡ Some request
 unfolding request_in
 asked_by words (Audit q) a = ap request_in a.command ∙ asked audit_grammar refl audit_in Audit words q a
 asked_by words (Keygen q) a = ap request_in a.command ∙ asked keygen_grammar refl keygen_in Keygen words q a
 asked_by words (Check q) a = ap request_in a.command ∙ asked check_grammar refl check_in Check words q a
+asked_by words (Record q) a = ap request_in a.command ∙ asked record_grammar refl record_in Record words q a
+asked_by words (Answer q) a = ap request_in a.command ∙ asked answer_grammar refl answer_in Answer words q a
 
 pub returns : goal.returns
 returns c = λ words request. (asks words request, asked_by words request)

@@ -1,5 +1,5 @@
 use Rattle.std.proofs.Common.{refl}
-use Rattle.nr_spec_commands.specs.Words.{audit_grammar, check_grammar, keygen_grammar}
+use Rattle.nr_spec_commands.specs.Words.{answer_grammar, audit_grammar, check_grammar, keygen_grammar, record_grammar}
 use Rattle.nr_laws_words.proofs.Theorem.{given, gives}
 use Rattle.nr_laws_words.proofs.commands.words_of_commands_are_pairs.Goals as goal
 
@@ -8,4 +8,6 @@ returns c = record {
   audit = λ words values. (gives audit_grammar refl audit_grammar.command words values, given audit_grammar refl audit_grammar.command words values);
   keygen = λ words values. (gives keygen_grammar refl keygen_grammar.command words values, given keygen_grammar refl keygen_grammar.command words values);
   check = λ words values. (gives check_grammar refl check_grammar.command words values, given check_grammar refl check_grammar.command words values);
+  recording = λ words values. (gives record_grammar refl record_grammar.command words values, given record_grammar refl record_grammar.command words values);
+  answer = λ words values. (gives answer_grammar refl answer_grammar.command words values, given answer_grammar refl answer_grammar.command words values);
 }
