@@ -6,6 +6,9 @@ authenticators that the network signed: one of entry 3 as it stands in the answe
 another message. The network kept two logs, and the second authenticator shows it. Entry 4 is a message to neighbour 1,
 which the file doesn't declare.
 
+`day.mrt` has the records of a minute: the transit announces a prefix, the network announces one of its own, and a router
+that the promise file doesn't name says something, too.
+
 Everything is signed by keys of one seed that is no secret: the bytes 0 to 31. A real seed comes from the system's
 random source (docs/keys.md).
 """
@@ -18,8 +21,10 @@ HERE = os.path.dirname(os.path.abspath(__file__))
 DATA = os.path.join(HERE, "..", "crates", "netreview", "data")
 sys.path.insert(0, os.path.join(HERE, "..", "bench"))
 
+import days
 import keys
 import logs
+import recording
 
 AS = 64500
 SEED = bytes(range(32))
@@ -61,6 +66,27 @@ def smallest_log():
     return log
 
 
+def announced(path, address, bits):
+    """An UPDATE that announces a prefix by a path of AS numbers of four bytes, with the next hop 192.0.2.1."""
+    block = (days.attribute(0x40, 1, b"\0")
+             + days.attribute(0x40, 2, struct.pack(">BB%dI" % len(path), 2, len(path), *path))
+             + days.attribute(0x40, 3, bytes((192, 0, 2, 1))))
+    return days.update(b"", block, days.prefix_bytes(address, bits))
+
+
+def day_file():
+    """The MRT file of `examples/record`."""
+    heard, said = recording.MESSAGE_AS4, recording.MESSAGE_AS4_LOCAL
+    transit, stranger = (64510, 0xC000020A), (64511, 0xC000020B)
+    keepalive = b"\xff" * 16 + b"\0\x13\4"
+    return b"".join((
+        recording.exchanged(1, heard, *transit, announced([64510, 64496], 198 << 24 | 51 << 16 | 100 << 8, 24)),
+        recording.exchanged(2, said, *transit, announced([AS], 203 << 24 | 113 << 8, 24)),
+        recording.exchanged(3, heard, *stranger, keepalive),
+        recording.exchanged(30, said, *transit, keepalive),
+    ))
+
+
 def write(folder, name, data):
     with open(os.path.join(folder, name), "wb") as file:
         file.write(data)
@@ -76,6 +102,7 @@ def write_example():
         shown.authenticator(3, lambda body: tree.sign(1, body)),
         hidden.authenticator(3, lambda body: tree.sign(2, body)),
     ]))
+    write(HERE, "day.mrt", day_file())
     write(HERE, "root", tree.root.hex().encode() + b"\n")
     print("examples/root: root", tree.root.hex())
     print("examples/check: malformed promise", MISTAKE.index(b"transit_a"))
