@@ -8,7 +8,7 @@ use Rattle.std.proofs.lemmas.Bool.Decides.{nat_tests}
 use Rattle.nr_spec_bgp.specs.Prefixes.{Cidr}
 use Rattle.nr_spec_bgp.specs.Attributes.{AttributeBlock}
 use Rattle.nr_spec_routes.specs.declared.direction.Direction.TheVariants.{Received}
-use Rattle.nr_spec_routes.specs.Keys.{Key, Row, cidr_cmp, direction_cmp, direction_number, key_cmp, route_in, stands_in}
+use Rattle.nr_spec_routes.specs.Keys.{Key, Row, cidr_cmp, direction_number, key_cmp, route_in, stands_in}
 use Rattle.nr_spec_routes.proofs.Stands.{has_row, of_itself, row_stands}
 
 abbrev pub first : Cidr → Key

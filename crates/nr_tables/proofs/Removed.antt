@@ -1,5 +1,5 @@
 -- Rows without one.
-use Rattle.std.proofs.Common.{◌≡◌, ◌==◌, ℕ, Bool, true, false, cond, not, ◌&&◌, ◌||◌, List, [], ◌∷◌, Option, Some, None, refl, ap, sym, ◌∙◌, arith, take}
+use Rattle.std.proofs.Common.{◌≡◌, ◌==◌, ℕ, Bool, true, false, cond, ◌||◌, List, [], ◌∷◌, Option, Some, None, refl, ap, sym, ◌∙◌, arith, take}
 use Rattle.std.specs.Prelude.{is_some, map, if◌then◌else◌}
 use Rattle.std.specs.Map.{lookup, remove_entry}
 use Rattle.std.specs.BTreeMap.{is_at}
@@ -9,7 +9,6 @@ use Rattle.std.specs.declared.cmp.Ordering.{Ordering}
 use Rattle.std.specs.declared.cmp.Ordering.TheVariants.{Less, Equal, Greater}
 use Rattle.std.proofs.lemmas.Bool.Decides.{nat_tests}
 use Rattle.nr_spec_bgp.specs.Prefixes.{Cidr}
-use Rattle.std.specs.FinMap.{put}
 use Rattle.nr_spec_bgp.specs.Attributes.{AttributeBlock}
 use Rattle.nr_spec_routes.specs.Keys.{Key, Row, cidr_cmp, is_named, key_cmp, prefixes_in, route_in}
 use Rattle.nr_spec_routes.proofs.KeyOrder.{exact_keys}
@@ -71,37 +70,6 @@ none_with n (r ∷ rows) p h = by (n == r.0.neighbour) refl (none_with n rows p)
     by false e ih = ih (λ q same. rest r.1 (is_eq (key_cmp q r.0)) (route_in rows q) (h q same))
 
 -- ---- held
-
-pub held_put : (rows new : List Row) (places more : List Key) (key : Key) (route : AttributeBlock) → AreHeld rows places
-    → ((q : Key) → route_in new q ≡ cond (is_eq (key_cmp key q)) (Some route) (route_in rows q)) → ((q : Key) → is_in more q ≡ (is_eq (key_cmp key q) || is_in places q)) → AreHeld new more
-held_put rows new places more key route h put add q some = add q ∙ by (is_eq (key_cmp key q)) (ap is_some (sym (put q)) ∙ some)
-  where
-    by : (t : Bool) → is_some (cond t (Some route) (route_in rows q)) ≡ true → (t || is_in places q) ≡ true
-    by true s = refl
-    by false s = h q s
-
-pub held_take : (rows new : List Row) (places fewer : List Key) (key : Key) → AreHeld rows places
-    → ((q : Key) → route_in new q ≡ cond (is_eq (key_cmp key q)) None (route_in rows q)) → ((q : Key) → is_in fewer q ≡ (not (is_eq (key_cmp key q)) && is_in places q)) → AreHeld new fewer
-held_take rows new places fewer key h take remove q some = remove q ∙ by (is_eq (key_cmp key q)) (ap is_some (sym (take q)) ∙ some)
-  where
-    by : (t : Bool) → is_some (cond t None (route_in rows q)) ≡ true → (not t && is_in places q) ≡ true
-    by true s = absurd cc
-    by false s = h q s
-
-pub held_less : (rows new : List Row) (places : List Key) (key : Key) → AreHeld rows places
-    → ((q : Key) → route_in new q ≡ cond (is_eq (key_cmp key q)) None (route_in rows q)) → AreHeld new places
-held_less rows new places key h take q some = by (is_eq (key_cmp key q)) (ap is_some (sym (take q)) ∙ some)
-  where
-    by : (t : Bool) → is_some (cond t None (route_in rows q)) ≡ true → is_in places q ≡ true
-    by true s = absurd cc
-    by false s = h q s
-
-pub held_more : (rows : List Row) (places more : List Key) (key : Key) → AreHeld rows places → ((q : Key) → is_in more q ≡ (is_eq (key_cmp key q) || is_in places q)) → AreHeld rows more
-held_more rows places more key h add q some = add q ∙ ap (λ t. is_eq (key_cmp key q) || t) (h q some) ∙ or_true (is_eq (key_cmp key q))
-  where
-    or_true : (b : Bool) → (b || true) ≡ true
-    or_true true = refl
-    or_true false = refl
 
 -- where no place is of the neighbour, no row is
 pub none_held : (n : ℕ) (rows : List Row) (places : List Key) → AreHeld rows places → ((q : Key) → (n == q.neighbour) ≡ true → is_in places q ≡ false) → (q : Key) → (n == q.neighbour) ≡ true → route_in rows q ≡ None

@@ -1,6 +1,6 @@
 //! Rows in order.
 
-ghost use Rattle.std.specs.Prelude.{◌≡◌, ◌==◌, ◌||◌, [], length, Some, None, is_some, option_copied, OnOk, IfOk, if◌then◌else◌};
+ghost use Rattle.std.specs.Prelude.{◌≡◌, ◌==◌, ◌||◌, [], length, Some, None, is_some, option_copied, OnOk, OnErr, IfOk, if◌then◌else◌};
 ghost use Rattle.std.specs.Map.{remove_entry};
 ghost use Rattle.std.specs.BTreeMap.{is_at};
 ghost use Rattle.std.specs.Ordering.{is_eq};
@@ -94,6 +94,55 @@ fn empty_rows(
     Ok(())
 }
 
+// Puts a row; whether one was in its place.
+fn swap_row(rows: &mut BTreeMap<Key, Route>, key: Key, route: Route) -> Result<bool, Memory>
+    ensures was { IfOk result (λ was. was ≡ is_some (route_in rows.old.entries key)) }
+    ensures rows { OnOk result ((q : keys.Key)
+        → route_in rows.new.entries q
+        ≡ (if is_eq (key_cmp key q) then Some route else route_in rows.old.entries q)) }
+    ensures memory { OnErr result (rows.new.entries ≡ rows.old.entries) }
+{
+    let old = rows.insert(key, route)?;
+    Ok(old.is_some())
+}
+
+// Puts a row. Only a new one wants a place.
+fn put_row(
+    rows: &mut BTreeMap<Key, Route>,
+    places: &mut Places,
+    key: Key,
+    route: Route,
+) -> Result<(), Memory>
+    requires { AreHeld rows.old.entries places.old }
+    ensures held { AreHeld rows.new.entries places.new }
+    ensures rows { OnOk result ((q : keys.Key)
+        → route_in rows.new.entries q
+        ≡ (if is_eq (key_cmp key q) then Some route else route_in rows.old.entries q)) }
+{
+    if swap_row(rows, key, route)? {
+        return Ok(());
+    }
+    match places.add(key) {
+        Ok(()) => Ok(()),
+        Err(memory) => {
+            drop_row(rows, key);
+            Err(memory)
+        }
+    }
+}
+
+// Removes a row, and its place where it was there.
+fn take_row(rows: &mut BTreeMap<Key, Route>, places: &mut Places, key: Key)
+    requires { AreHeld rows.old.entries places.old }
+    ensures held { AreHeld rows.new.entries places.new }
+    ensures rows { (q : keys.Key)
+        → route_in rows.new.entries q ≡ (if is_eq (key_cmp key q) then None else route_in rows.old.entries q) }
+{
+    if drop_row(rows, key) {
+        places.remove(key);
+    }
+}
+
 impl Table {
     pub fn new(alloc: Global) -> Table
         ensures { result ≡ [] }
@@ -114,16 +163,13 @@ impl Table {
         ensures { OnOk result ((q : keys.Key)
             → route_in self.new q ≡ (if is_eq (key_cmp key q) then Some route else route_in self.old q)) }
     {
-        self.places.add(key)?;
-        self.rows.insert(key, route)?;
-        Ok(())
+        put_row(&mut self.rows, &mut self.places, key, route)
     }
 
     pub fn take(&mut self, key: Key)
         ensures { (q : keys.Key) → route_in self.new q ≡ (if is_eq (key_cmp key q) then None else route_in self.old q) }
     {
-        self.rows.remove(&key);
-        self.places.remove(key);
+        take_row(&mut self.rows, &mut self.places, key);
     }
 
     /// Removes the rows of a neighbour, and gathers their prefixes. It looks at no other row.
