@@ -6,11 +6,11 @@ ghost use Rattle.nr_spec_typing.specs.Meaning.{holds_where, of_neighbour, neighb
 ghost use Rattle.nr_spec_typing.specs.Meaning as meaning;
 ghost use Rattle.nr_verify_eval.specs.Views.{scene_of};
 
-use crate::term::{compares, crosses, has, number, route_on, stands_in, who};
+use crate::term::{compares, crosses, has, number, route_on, who};
 use crate::things::Things;
 use nr_attrs::Attrs;
 use nr_bytes::Memory;
-use nr_prefix::Prefix;
+use nr_prefix::{Prefix, contains};
 use nr_spec_typing::{Neighbour, Typing};
 use nr_verify_routes::Routes;
 use std::alloc::Global;
@@ -163,12 +163,32 @@ fn holds_at<'s, 'a>(
             holds_at(neighbours, prefix, routes, things, right.get())
         }
         Typing::All { group, form, .. } => {
-            holds_for_all(neighbours, prefix, routes, things, group.as_slice(), form.get())
+            holds_for_all(
+                neighbours,
+                prefix,
+                routes,
+                things,
+                group.as_slice(),
+                form.get(),
+            )
         }
         Typing::Some { group, form, .. } => {
-            holds_for_one(neighbours, prefix, routes, things, group.as_slice(), form.get())
+            holds_for_one(
+                neighbours,
+                prefix,
+                routes,
+                things,
+                group.as_slice(),
+                form.get(),
+            )
         }
-        Typing::If { side, of, yes, no, .. } => {
+        Typing::If {
+            side,
+            of,
+            yes,
+            no,
+            ..
+        } => {
             match route_on(prefix, routes, *side, who(things, *of)) {
                 Some(found) => holds_on(neighbours, prefix, routes, things, found, yes.get()),
                 None => holds_at(neighbours, prefix, routes, things, no.get()),
@@ -183,7 +203,7 @@ fn holds_at<'s, 'a>(
             Ok(crosses(things, *route, asn))
         }
         Typing::Is { left, right } => Ok(who(things, *left) == who(things, *right)),
-        Typing::PrefixIn { set } => Ok(stands_in(set.as_slice(), prefix)),
+        Typing::PrefixIn { set } => Ok(contains(set.as_slice(), prefix)),
         Typing::Compare { left, op, right } => {
             let left = number(neighbours, prefix, routes, things, *left);
             let right = number(neighbours, prefix, routes, things, *right);

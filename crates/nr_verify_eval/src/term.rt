@@ -1,17 +1,14 @@
 //! Whole numbers, and what is asked of a route.
 
-ghost use Rattle.std.specs.Prelude.{◌≡◌, map, option_map};
+ghost use Rattle.std.specs.Prelude.{◌≡◌, option_map};
 ghost use Rattle.nr_spec_bgp.specs.Attributes.{has_community, path_of};
 ghost use Rattle.nr_spec_bgp.specs.Paths.{crosses};
-ghost use Rattle.std.specs.List.{list_any};
-ghost use Rattle.nr_spec_bgp.specs.Prefixes as prefixes;
-ghost use Rattle.nr_prefix.specs.Views.{pattern_of};
 ghost use Rattle.nr_spec_typing.specs.Meaning as meaning;
 ghost use Rattle.nr_verify_eval.specs.Views.{scene_of};
 
 use crate::things::Things;
 use nr_attrs::Attrs;
-use nr_prefix::{Pattern, Prefix};
+use nr_prefix::Prefix;
 use nr_rule_syntax::{Cmp, Side};
 use nr_spec_routes::Direction;
 use nr_spec_typing::{Neighbour, Value, Who};
@@ -27,7 +24,12 @@ pub fn who(things: &Things<'_, '_>, of: Who) -> u16
 }
 
 /// The route on a side of a neighbour.
-pub fn route_on<'s, 'a>(prefix: &Prefix, routes: &'s Routes<'a>, side: Side, n: u16) -> Option<&'s Attrs<'a>>
+pub fn route_on<'s, 'a>(
+    prefix: &Prefix,
+    routes: &'s Routes<'a>,
+    side: Side,
+    n: u16,
+) -> Option<&'s Attrs<'a>>
     ensures { option_map (λ r. r.now) result ≡ meaning.route_in (scene_of prefix.now routes.now) side n }
 {
     match side {
@@ -45,7 +47,13 @@ fn asn(neighbours: &[Neighbour], n: u16) -> u32
     }
 }
 
-pub fn number(neighbours: &[Neighbour], prefix: &Prefix, routes: &Routes<'_>, things: &Things<'_, '_>, term: Value) -> u32
+pub fn number(
+    neighbours: &[Neighbour],
+    prefix: &Prefix,
+    routes: &Routes<'_>,
+    things: &Things<'_, '_>,
+    term: Value,
+) -> u32
     ensures { result ≡ meaning.number neighbours.now (scene_of prefix.now routes.now) things.now term }
 {
     match term {
@@ -91,24 +99,4 @@ pub fn crosses(things: &Things<'_, '_>, r: u8, asn: u32) -> bool
         Some(route) => route.crosses(asn),
         None => false,
     }
-}
-
-fn fits_pattern(prefix: &Prefix, w: &Pattern) -> bool
-    ensures { result ≡ prefixes.fits prefix.now (pattern_of w.now) }
-{
-    w.prefix.covers(prefix) && prefix.len() <= w.most
-}
-
-fn fits_one(prefix: &Prefix, patterns: &[Pattern]) -> bool
-    ensures { result ≡ list_any (λ w. prefixes.fits prefix.now (pattern_of w)) patterns.now }
-{
-    patterns.iter().any(|w| fits_pattern(prefix, w))
-}
-
-/// Whether the prefix fits one of the patterns.
-#[tactic(auto, using(crate::proofs::Forms::fits_any))]
-pub fn stands_in(patterns: &[Pattern], prefix: &Prefix) -> bool
-    ensures { result ≡ prefixes.is_in (map pattern_of patterns.now) prefix.now }
-{
-    fits_one(prefix, patterns)
 }

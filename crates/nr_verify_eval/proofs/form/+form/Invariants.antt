@@ -3,6 +3,7 @@ use Rattle.std.specs.List.{list_all, list_any}
 use Rattle.nr_spec_typing.specs.Meaning.{holds_where, of_neighbour}
 use Rattle.nr_verify_eval.specs.Views.{scene_of}
 use Rattle.nr_verify_eval.proofs.form.+form.Given as goal
+
 abbrev pub invariant-all_hold-loop-member : goal.invariant-all_hold-loop-member
 invariant-all_hold-loop-member l = record {
   same : l.things ≡ l.initial.things;
