@@ -1,41 +1,41 @@
 //! Authenticators, files of them, and answers.
 
 use nr_answer::{Answer, Auth, Auths};
-use nr_bytes::{Cursor, Memory, Place, put_bytes, put_u8, put_u16, put_u32, put_u64};
+use nr_bytes::{Cursor, Memory, Place, put_bytes};
 use nr_chain::Digest;
 use std::alloc::Global;
 use std::test::Fail;
 
-fn put_auth(out: &mut Vec<u8>, seq: u64, time: u64) -> Result<(), Memory> {
-    put_u32(out, 64500)?;
-    put_u64(out, seq)?;
-    put_u64(out, time)?;
-    put_bytes(out, &[3; 32])?;
-    put_u32(out, 1)?;
-    put_u8(out, 1)?;
-    for _ in 0..512 {
-        put_bytes(out, &[7; 32])?;
+// What stands in an authenticator before its seq, between its time and its signature's pairs, and behind them.
+const ASN: &[u8] = b"\0\0\xfb\xf4";
+
+const VALUE_LEAF_HEIGHT: &[u8] =
+    b"\x03\x03\x03\x03\x03\x03\x03\x03\x03\x03\x03\x03\x03\x03\x03\x03\x03\x03\x03\x03\x03\x03\x03\x03\x03\x03\x03\x03\x03\x03\x03\x03\0\0\0\x01\x01";
+
+const PAIRS_PATH: [u8; 512 * 32 + 32] = [7; 512 * 32 + 32];
+
+fn put_all(out: &mut Vec<u8>, pieces: &[&[u8]]) -> Result<(), Memory> {
+    for piece in pieces {
+        put_bytes(out, piece)?;
     }
-    put_bytes(out, &[9; 32])
+    Ok(())
 }
 
-// Up to its entries, an answer that starts at a checkpoint, entry 4.
-const OPENING: &[u8] =
-    b"NRA1\0\0\xfb\xf4\0\0\0\0\0\0\0\x04\x02\x02\x02\x02\x02\x02\x02\x02\x02\x02\x02\x02\x02\x02\x02\x02\x02\x02\x02\x02\x02\x02\x02\x02\x02\x02\x02\x02\x02\x02\x02\x02\x01\0\0\0\x03any";
+// An authenticator of this seq and time, each of eight bytes.
+fn put_auth(out: &mut Vec<u8>, seq: &[u8], time: &[u8]) -> Result<(), Memory> {
+    put_all(out, &[ASN, seq, time, VALUE_LEAF_HEIGHT, &PAIRS_PATH])
+}
 
-// Such an answer, with entry 5 after its checkpoint.
+// Up to its end, an answer that starts at a checkpoint, entry 4, with entry 5 after its checkpoint, but for its head.
+const ANSWER: &[u8] =
+    b"NRA1\0\0\xfb\xf4\0\0\0\0\0\0\0\x04\x02\x02\x02\x02\x02\x02\x02\x02\x02\x02\x02\x02\x02\x02\x02\x02\x02\x02\x02\x02\x02\x02\x02\x02\x02\x02\x02\x02\x02\x02\x02\x02\x01\0\0\0\x03any\
+      \0\0\0\x02\0\0\0\0\0\0\0\x06\x06\0\x20\x01\x01\x01\x01\x01\x01\x01\x01\x01\x01\x01\x01\x01\x01\x01\x01\x01\x01\x01\x01\x01\x01\x01\x01\x01\x01\x01\x01\x01\x01\x01\x01\
+      \0\0\0\0\0\0\0\x09\xc8\0\0";
+
 fn partial(alloc: Global) -> Result<Vec<u8>, Memory> {
     let mut out = Vec::new(alloc);
-    put_bytes(&mut out, OPENING)?;
-    put_u32(&mut out, 2)?;
-    put_u64(&mut out, 6)?;
-    put_u8(&mut out, 6)?;
-    put_u16(&mut out, 32)?;
-    put_bytes(&mut out, &[1; 32])?;
-    put_u64(&mut out, 9)?;
-    put_u8(&mut out, 200)?;
-    put_u16(&mut out, 0)?;
-    put_auth(&mut out, 5, 9)?;
+    put_bytes(&mut out, ANSWER)?;
+    put_auth(&mut out, b"\0\0\0\0\0\0\0\x05", b"\0\0\0\0\0\0\0\x09")?;
     Ok(out)
 }
 
@@ -65,8 +65,8 @@ fn an_answer_from_a_checkpoint(rt: HostRuntime) -> Result<(), Fail> {
 #[test]
 fn an_authenticator_file(rt: HostRuntime) -> Result<(), Fail> {
     let mut bytes = Vec::from_slice(rt.alloc(), b"NRT1")?;
-    put_auth(&mut bytes, 5, 9)?;
-    put_auth(&mut bytes, 6, 10)?;
+    put_auth(&mut bytes, b"\0\0\0\0\0\0\0\x05", b"\0\0\0\0\0\0\0\x09")?;
+    put_auth(&mut bytes, b"\0\0\0\0\0\0\0\x06", b"\0\0\0\0\0\0\0\x0a")?;
     let mut auths = Auths::read(&bytes)
         .ok()
         .ok_or("the file is well formed")?
