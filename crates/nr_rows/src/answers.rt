@@ -6,24 +6,22 @@ use nr_chain::Digest;
 use std::alloc::Global;
 use std::test::Fail;
 
-// What stands in an authenticator before its seq, between its time and its signature's pairs, and behind them.
-const ASN: &[u8] = b"\0\0\xfb\xf4";
+// Of how many bytes the pairs and the path of a signature are.
+const PAIRS_PATH: usize = 512 * 32 + 32;
 
-const VALUE_LEAF_HEIGHT: &[u8] =
-    b"\x03\x03\x03\x03\x03\x03\x03\x03\x03\x03\x03\x03\x03\x03\x03\x03\x03\x03\x03\x03\x03\x03\x03\x03\x03\x03\x03\x03\x03\x03\x03\x03\0\0\0\x01\x01";
+// Up to its pairs, an authenticator of seq 5 and time 9, and one of seq 6 and time 10.
+const FIFTH: &[u8] =
+    b"\0\0\xfb\xf4\0\0\0\0\0\0\0\x05\0\0\0\0\0\0\0\x09\x03\x03\x03\x03\x03\x03\x03\x03\x03\x03\x03\x03\x03\x03\x03\x03\x03\x03\x03\x03\x03\x03\x03\x03\x03\x03\x03\x03\x03\x03\x03\x03\0\0\0\x01\x01";
 
-const PAIRS_PATH: [u8; 512 * 32 + 32] = [7; 512 * 32 + 32];
+const SIXTH: &[u8] =
+    b"\0\0\xfb\xf4\0\0\0\0\0\0\0\x06\0\0\0\0\0\0\0\x0a\x03\x03\x03\x03\x03\x03\x03\x03\x03\x03\x03\x03\x03\x03\x03\x03\x03\x03\x03\x03\x03\x03\x03\x03\x03\x03\x03\x03\x03\x03\x03\x03\0\0\0\x01\x01";
 
-fn put_all(out: &mut Vec<u8>, pieces: &[&[u8]]) -> Result<(), Memory> {
-    for piece in pieces {
-        put_bytes(out, piece)?;
-    }
-    Ok(())
-}
-
-// An authenticator of this seq and time, each of eight bytes.
-fn put_auth(out: &mut Vec<u8>, seq: &[u8], time: &[u8]) -> Result<(), Memory> {
-    put_all(out, &[ASN, seq, time, VALUE_LEAF_HEIGHT, &PAIRS_PATH])
+fn put_auth(alloc: Global, out: &mut Vec<u8>, opening: &[u8]) -> Result<(), Memory> {
+    put_bytes(out, opening)?;
+    let Ok(pairs) = vec![in alloc; 7; PAIRS_PATH] else {
+        return Err(Memory);
+    };
+    put_bytes(out, &pairs)
 }
 
 // Up to its end, an answer that starts at a checkpoint, entry 4, with entry 5 after its checkpoint, but for its head.
@@ -35,7 +33,7 @@ const ANSWER: &[u8] =
 fn partial(alloc: Global) -> Result<Vec<u8>, Memory> {
     let mut out = Vec::new(alloc);
     put_bytes(&mut out, ANSWER)?;
-    put_auth(&mut out, b"\0\0\0\0\0\0\0\x05", b"\0\0\0\0\0\0\0\x09")?;
+    put_auth(alloc, &mut out, FIFTH)?;
     Ok(out)
 }
 
@@ -65,8 +63,8 @@ fn an_answer_from_a_checkpoint(rt: HostRuntime) -> Result<(), Fail> {
 #[test]
 fn an_authenticator_file(rt: HostRuntime) -> Result<(), Fail> {
     let mut bytes = Vec::from_slice(rt.alloc(), b"NRT1")?;
-    put_auth(&mut bytes, b"\0\0\0\0\0\0\0\x05", b"\0\0\0\0\0\0\0\x09")?;
-    put_auth(&mut bytes, b"\0\0\0\0\0\0\0\x06", b"\0\0\0\0\0\0\0\x0a")?;
+    put_auth(rt.alloc(), &mut bytes, FIFTH)?;
+    put_auth(rt.alloc(), &mut bytes, SIXTH)?;
     let mut auths = Auths::read(&bytes)
         .ok()
         .ok_or("the file is well formed")?

@@ -4,12 +4,20 @@ use nr_bytes::{Cursor, List, Memory, Short, put_bytes, put_u8, put_u16, put_u32,
 use std::alloc::Global;
 use std::test::Fail;
 
+fn put_small(out: &mut Vec<u8>) -> Result<(), Memory> {
+    put_u8(out, 7)?;
+    put_u16(out, 0x0102)
+}
+
+fn put_large(out: &mut Vec<u8>) -> Result<(), Memory> {
+    put_u32(out, 64500)?;
+    put_u64(out, 12_000_000)
+}
+
 fn spelled(alloc: Global) -> Result<Vec<u8>, Memory> {
     let mut out = Vec::new(alloc);
-    put_u8(&mut out, 7)?;
-    put_u16(&mut out, 0x0102)?;
-    put_u32(&mut out, 64500)?;
-    put_u64(&mut out, 12_000_000)?;
+    put_small(&mut out)?;
+    put_large(&mut out)?;
     put_bytes(&mut out, b"netreview 1")?;
     Ok(out)
 }

@@ -204,7 +204,7 @@ fn told(alloc: Global, text: &[u8]) -> Result<(Vec<u8>, String), Fail>
 }
 
 // A file, the one text that is printed for it, and the tree of its promise.
-const FILES: [(&str, &str, &str); 6] = [
+const FILES: [(&str, &str, &str); 5] = [
     (
         "\
 network 64500;
@@ -320,21 +320,6 @@ group peers = peer_a, peer_b;
 promise short grace 0 { all n in peers { if r = sent(n) then length(r) <= 3 and first(r) = 64500 else true end } }
 ",
         "(all v0 [#0 #1] (if v1 sent(v0) (and (length(v1) <= 3) (first(v1) = 64500)) true))",
-    ),
-    (
-        "\
-network 64500;
-commit 60;
-neighbour peer_a as 64511 at 192.0.2.11;
-promise next_hop grace 0 { if r = sent(peer_a) then hop(r) = 192.0.2.1 else true end }
-",
-        "\
-network 64500;
-commit 60;
-neighbour peer_a as 64511 at 192.0.2.11;
-promise next_hop grace 0 { if r = sent(peer_a) then hop(r) = 3221225985 else true end }
-",
-        "(if v0 sent(#0) (hop(v0) = 3221225985) true)",
     ),
 ];
 
@@ -475,6 +460,21 @@ fn formulas_have_their_trees(rt: HostRuntime) -> Result<(), Fail> {
         assert_eq!(rt; has.as_str(), *tree);
         assert!(rt; got.as_slice() == text.as_bytes(), "{text}");
     }
+    Ok(())
+}
+
+// An address is a number, and is printed as one.
+const ADDRESS: &str = "if r = sent(peer_a) then hop(r) = 192.0.2.1 else true end";
+
+const NUMBER: &str = "if r = sent(peer_a) then hop(r) = 3221225985 else true end";
+
+#[test]
+fn an_address_is_printed_as_a_number(rt: HostRuntime) -> Result<(), Fail> {
+    let text = format!(in rt.alloc(); "{BEFORE}{ADDRESS}{AFTER}")?;
+    let want = format!(in rt.alloc(); "{BEFORE}{NUMBER}{AFTER}")?;
+    assert!(rt; text.len() <= MOST);
+    let (got, _) = told(rt.alloc(), text.as_bytes())?;
+    assert!(rt; got.as_slice() == want.as_bytes());
     Ok(())
 }
 
