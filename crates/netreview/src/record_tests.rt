@@ -22,8 +22,8 @@ const OTHER: &[u8] = b"\x00\x00\x00\x0a\x00\x10\x00\x09\x00\x00\x00\x00";
 const LONG_FRONT: &[u8] =
     b"\x00\x00\x00\x0a\x00\x10\x00\x04\x00\x01\x00\x11\x00\x00\xfb\xf5\x00\x00\xfb\xf4\x00\x00\x00\x01\xc0\x00\x02\x01\xc0\x00\x02\x02";
 
-// A promise file and a key, under the names `p` and `k`.
-fn own_files(alloc: Global, promise: &[u8]) -> Option<MemFiles> {
+/// A promise file and a key, under the names `p` and `k`.
+pub fn own_files(alloc: Global, promise: &[u8]) -> Option<MemFiles> {
     let mut files = MemFiles::new(alloc);
     let mut key = Vec::new(alloc);
     if put_bytes(&mut key, KEY_FRONT).is_ok()
@@ -70,14 +70,15 @@ fn records_file(alloc: Global, files: &mut MemFiles, status: u8, text: &str) -> 
     gives(alloc, &words, files, status, text)
 }
 
-const ANSWER: [&str; 7] = ["answer", "--key", "k", "--log", "l", "--out", "a"];
+/// The words of an answer of the log `l`.
+pub const ANSWER: [&str; 7] = ["answer", "--key", "k", "--log", "l", "--out", "a"];
 
 fn answers(alloc: Global, files: &mut MemFiles, status: u8, text: &str) -> bool {
     gives(alloc, &ANSWER, files, status, text)
 }
 
-// How many bytes the log has, if it is there.
-fn log_size(files: &MemFiles) -> Option<usize> {
+/// How many bytes the log has, if it is there.
+pub fn log_size(files: &MemFiles) -> Option<usize> {
     match files.bytes("l") {
         Some(bytes) => Some(bytes.len()),
         None => None,
@@ -162,6 +163,16 @@ fn records_are_kept_and_skipped(rt: HostRuntime) {
     assert!(rt; records_pieces(alloc, [HEARD, OTHER], 0, text, Some(208)));
     let cut = HEARD.get(..50).unwrap_or(&[]);
     assert!(rt; records_pieces(alloc, [cut, &[]], 3, "malformed mrt1 12\n", None));
+}
+
+#[test]
+fn a_refused_turn_leaves_nothing(rt: HostRuntime) {
+    let alloc = rt.alloc();
+    let mut files = own_files(alloc, ONE).expect(&rt, "memory");
+    assert!(rt; put_file(alloc, &mut files, [HEARD, &[]]));
+    assert!(rt; records_file(alloc, &mut files, 0, "entries 1 5\nskipped 0\n"));
+    assert!(rt; records_file(alloc, &mut files, 7, "refused key 2 2\n"));
+    assert_eq!(rt; log_size(&files), Some(208));
 }
 
 // Whether a message of 65,533 bytes is refused, and no log is born.

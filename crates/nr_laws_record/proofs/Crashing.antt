@@ -98,7 +98,7 @@ prepare_crash q image found old stands crash =
 -- the log before the first turn
 before_turns : (q : RecordRequest) (p : Prepared) (image : List ℕ) → loading image ≡ Ok (Some (log_before p)) → IsLeftOf q p image
 unfolding log_after
-before_turns q p image is = inl (record { count = 0; within = omega arith; loads = record { front = (log_before p).front; loads = is } })
+before_turns q p image is = inl (record { count = 0; within = omega arith; done = tt; loads = record { front = (log_before p).front; loads = is } })
 
 born_crash : (q : RecordRequest) (p : Prepared) (found : Option LogFile) (image : List ℕ) (old : Disk) → p.found ≡ found → p.key.asn < 2 ^ 32 → Stands old q.log found → Crashes (born_plan q.log p.key found) old q.log image → IsLeftOf q p image
 unfolding born_plan Sometime
@@ -108,7 +108,7 @@ born_crash q p (Some log) image old is small keeps left =
     let same : log ≡ log_before p = sym (ap (λ (f : Option LogFile). unwrap_or f (born p.key.asn (key_root p.key))) is) in
     before_turns q p image (stands_loads q.log image (Some log) old keeps left ∙ ap (λ (l : LogFile). Ok (Some l)) same)
 
-from_crash : (q : RecordRequest) (p : Prepared) (t : Told) (image : List ℕ) (mid : Disk) → Ready q mid t p → RecordFits q p → Crashes (recorded_from q p) mid q.log image → IsLeftOf q p image
+pub from_crash : (q : RecordRequest) (p : Prepared) (t : Told) (image : List ℕ) (mid : Disk) → Ready q mid t p → RecordFits q p → Crashes (recorded_from q p) mid q.log image → IsLeftOf q p image
 unfolding followed_by
 from_crash q p t image mid ready fits crash =
     ⊎_elim

@@ -100,7 +100,7 @@ checked_ends promise key files found =
     ends_followed (λ p. p.found ≡ found) _ _ (λ a. ends_followed (λ p. p.found ≡ found) _ _ (λ b. ends_followed (λ p. p.found ≡ found) want _ (λ c. ends_followed (λ p. p.found ≡ found) _ _ (λ d.
     ends_followed (λ p. p.found ≡ found) want _ (λ e. ends_followed (λ p. p.found ≡ found) _ _ (λ f. refl))))))
 
-prepare_each : (kind : Action → Type 0) (q : RecordRequest) → KindReads kind q.promise → KindReads kind q.key → AllRead kind q.files → KindLoads kind q.log → Each kind (prepare_plan q)
+pub prepare_each : (kind : Action → Type 0) (q : RecordRequest) → KindReads kind q.promise → KindReads kind q.key → AllRead kind q.files → KindLoads kind q.log → Each kind (prepare_plan q)
 unfolding prepare_plan
 prepare_each kind q promise key files loads =
     each_followed kind _ _ (promise_each kind q.promise promise) (λ p.

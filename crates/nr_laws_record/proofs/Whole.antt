@@ -204,7 +204,7 @@ unborn_left q p file none (inr is) =
     let fresh = born p.key.asn (key_root p.key) in
     let same : fresh ≡ log_before p = sym (ap (λ (f : Option LogFile). unwrap_or f fresh) none) in
     let loads : LoadsEntries file fresh fresh.entries = record { front = fresh.front; loads = is } in
-    inl (record { count = 0; within = omega arith; loads = subst (λ (l : LogFile). LoadsEntries file l l.entries) same loads })
+    inl (record { count = 0; within = omega arith; done = tt; loads = subst (λ (l : LogFile). LoadsEntries file l l.entries) same loads })
 
 turns_left : (q : RecordRequest) (p : Prepared) (old new : Disk) (result : Result LogFile (Halt Refusal)) → Keeps old q.log (log_before p) → RecordFits q p → Runs (turns_plan q.log (recorder_in p) (log_before p) (turns_in q p)) old new result → LeavesTurns q p new
 turns_left q p old new result keeps fits runs = record {

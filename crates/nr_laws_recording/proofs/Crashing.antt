@@ -17,7 +17,7 @@ use Rattle.nr_spec_steps.specs.Steps.{Recorder, Spent}
 use Rattle.nr_spec_steps.specs.Turns.{log_after, turn, with_turn}
 use Rattle.nr_spec_program.specs.Command.{Work}
 use Rattle.nr_spec_program.specs.Recording.{batch_plan, turned, turns_plan, unwritten_log}
-use Rattle.nr_laws_recording.specs.FirstTurns.{LoadsFirstTurns, TurnsFit}
+use Rattle.nr_laws_recording.specs.FirstTurns.{AreDone, LoadsFirstTurns, TurnsFit}
 
 -- ---- plans whose refusals are told in other words
 
@@ -53,7 +53,7 @@ before name log image d keeps left = record { front = log.front; loads = ap load
 
 pub first_none : (image : List ℕ) (r : Recorder) (log : LogFile) (turns : List (List Event)) → LoadsEntries image log log.entries → LoadsFirstTurns image r log turns
 unfolding log_after
-first_none image r log turns is = record { count = 0; within = omega arith; loads = is }
+first_none image r log turns is = record { count = 0; within = omega arith; done = tt; loads = is }
 
 -- A turn that was appended, and some first ones of the others.
 first_more : (image : List ℕ) (r : Recorder) (log longer : LogFile) (events : List Event) (others : List (List Event)) (batch : List LogEntry)
@@ -66,6 +66,7 @@ first_more image r log longer events others batch done asn root is first =
     record {
       count = suc first.count;
       within = omega (arith, first.within);
+      done = (batch, done, subst (λ (l : List LogEntry). AreDone r l t) is first.done);
       loads = alike image longer log (log_after r longer.entries t) (log_after r (with_turn log.entries (turn r log.entries events)) t) asn root (ap (λ (l : List LogEntry). log_after r l t) entries) first.loads;
     }
 

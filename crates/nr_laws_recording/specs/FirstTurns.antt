@@ -15,8 +15,15 @@ TurnsFit r log (events ∷ others) =
     (batch : List LogEntry) → turn r log events ≡ Ok batch
     → AreEntriesFrom (last_time 0 log) batch × TurnsFit r (log ++ batch) others
 
--- The file loads as the log with all that some first turns append.
+-- Each of these turns was done, one behind another: the key was spent in none of them.
+abbrev pub AreDone : Recorder → List LogEntry → List (List Event) → Type 0
+AreDone r log [] = Unit {0}
+AreDone r log (events ∷ others) =
+    (batch : List LogEntry) × (turn r log events ≡ Ok batch) × AreDone r (log ++ batch) others
+
+-- The file loads as the log with all that some first turns append, each of which was done.
 pub record LoadsFirstTurns (file : List ℕ) (r : Recorder) (log : LogFile) (turns : List (List Event)) : Type 0 where
   pub count : ℕ
   pub within : count ≤ length turns
+  pub done : AreDone r log.entries (take count turns)
   pub loads : LoadsEntries file log (log_after r log.entries (take count turns))

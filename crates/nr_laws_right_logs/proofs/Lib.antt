@@ -1,0 +1,5 @@
+pub mod Short
+pub mod Sessions
+pub mod Named
+pub mod Turning
+pub mod Crashing
