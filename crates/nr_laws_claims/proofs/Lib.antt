@@ -1,0 +1,4 @@
+mod Members
+mod WrongOnes
+mod BrokenOnes
+pub mod Reports

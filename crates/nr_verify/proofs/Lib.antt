@@ -1,0 +1,7 @@
+mod Files
+mod Stands
+mod Watching
+mod Marks
+mod Claimed
+mod Judged
+mod Walking
