@@ -114,6 +114,25 @@ fn reads_a_whole_file(rt: HostRuntime) {
     assert!(rt; fails_to_read(alloc));
 }
 
+// Writes two files that weren't there, the later name first, and crashes: the filling goes on from the one to the other
+// in the order in which the names came.
+fn crashes_in_order(files: &mut MemFiles) -> bool {
+    if files.write_at("b", 0, b"12").is_err() || files.write_at("a", 0, b"345").is_err() {
+        return false;
+    }
+    files.crash(b"xyz", 1000);
+    match files.bytes("b") {
+        Some(bytes) => bytes == b"xy".as_slice() && holds(files, b"zxy"),
+        None => false,
+    }
+}
+
+#[test]
+fn a_crash_goes_through_names_in_the_order_in_which_they_came(rt: HostRuntime) {
+    let mut files = MemFiles::new(rt.alloc());
+    assert!(rt; crashes_in_order(&mut files));
+}
+
 // Whether the second of three pieces fails, and the others are taken whole.
 fn takes_pieces(sink: &mut MemSink) -> bool {
     sink.fail_call(2).is_ok()
