@@ -24,6 +24,7 @@ taken_more {A} xs i x h = rw add-one (go xs i h)
   where
     some_is : (x y : A) → some_of x ≡ some_of y → x ≡ y
     some_is x y e = cc
+
     go : (xs : List A) (i : ℕ) → slice_get xs i ≡ Some x → take (suc i) xs ≡ take i xs ++ x ∷ []
     go [] i h = absurd cc
     go (y ∷ xs) zero h = ap (λ z. z ∷ []) (some_is y x h)

@@ -29,7 +29,12 @@ impl<'a> Model for Evidence<'a> {
 
     ghost Value = { EvidenceFile };
 
-    ghost view = { λ e. record { answer = e.answer.now; promise = e.promise.now; period = period_of e.period; claims = e.claims } };
+    ghost view = { λ e. record {
+      answer = e.answer.now;
+      promise = e.promise.now;
+      period = period_of e.period;
+      claims = e.claims;
+    } };
 
     ghost invariant = { λ e. (length e.answer.now ≤ 2147483647) × (length e.promise.now ≤ 1048576) };
 }

@@ -135,7 +135,7 @@ fn middle_text(
     Ok(out)
 }
 
-// The greatest size of an evidence file in bytes, and the size of all that isn't the answer, the promise text or a claim.
+// The greatest size of an evidence file in bytes, and the size of what isn't the answer, the promise text or a claim.
 const MOST: u64 = 3_221_225_472;
 
 const FIELDS: u64 = 32;

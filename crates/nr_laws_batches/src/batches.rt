@@ -5,7 +5,7 @@ ghost use Rattle.nr_spec_wire.specs.Reading.{Spot};
 ghost use Rattle.nr_spec_log.specs.Chain.{LogEntry};
 ghost use Rattle.nr_spec_store.specs.LogFile.{batches_at, entries_to_end};
 
-/// The number of bytes is fuel enough for the entries of a batch: more fuel reads the same, or faults at the same place.
+/// The number of bytes is fuel enough for the entries of a batch: more reads the same, or faults at the same place.
 pub fn more_fuel_reads_the_same_entries()
     ensures { (last fuel : ℕ) (s : Spot) → length s.rest ≤ fuel
         → entries_to_end last fuel s ≡ entries_to_end last (length s.rest) s }

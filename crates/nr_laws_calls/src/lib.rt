@@ -1,4 +1,4 @@
-//! The laws of the calls of a log's file that don't speak of the log: why they fail, and that they leave all other files
+//! The laws of the calls of a log's file that don't speak of the log: why they fail, and that they leave other files
 //! alone. The functions have no code: each is a theorem, which its contract states.
 #![tactic(auto)]
 

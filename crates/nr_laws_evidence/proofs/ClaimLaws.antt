@@ -38,7 +38,7 @@ unfolding conflict_at
 conflict_takes s v new fits e =
     let a = step authenticator_at IsAuthenticator authenticator authenticator_takes s _ (v, new) fits e in
     subst (Behind 1 s) (ok_is (Conflict a.value, a.next) (v, new) a.goes_on)
-        (a.value_fits, λ before tag. Takes-then before (big_bytes 1 1) s (authenticator a.value) a.next tag a.takes)
+    (a.value_fits, λ before tag. Takes-then before (big_bytes 1 1) s (authenticator a.value) a.next tag a.takes)
 
 wrong_takes : (s : Spot) (v : Claim) (new : Spot) → IsBytes s.rest → wrong_at s ≡ Ok (v, new) → Behind 2 s (v, new)
 unfolding wrong_at
@@ -51,7 +51,7 @@ wrong_takes s v new fits e =
     let high : b.value ≤ 8 = leb-true _ _ (and_right _ _ is.0) in
     let big : a.value < 2 ^ 64 = a.value_fits in
     subst (Behind 2 s) (ok_is (Wrong a.value b.value, b.next) (v, new) is.1)
-        ((big, low, high), λ before tag. Takes-then before (big_bytes 1 2) s (big_bytes 8 a.value ++ big_bytes 1 b.value) b.next tag ab)
+    ((big, low, high), λ before tag. Takes-then before (big_bytes 1 2) s (big_bytes 8 a.value ++ big_bytes 1 b.value) b.next tag ab)
 
 masked_fits : (addr len : ℕ) → addr < 2 ^ 32 → len ≤ 32 → IsCidr (masked addr len)
 masked_fits addr len a l =
@@ -80,14 +80,15 @@ broken_takes s v new fits e =
     let bg = Takes-then a.next (big_bytes 1 b.value) b.next (big_bytes 4 d.value ++ (big_bytes 8 f.value ++ big_bytes 8 g.value)) g.next b.takes dg in
     let ag = Takes-then s (big_bytes 2 a.value) a.next (big_bytes 1 b.value ++ (big_bytes 4 d.value ++ (big_bytes 8 f.value ++ big_bytes 8 g.value))) g.next a.takes bg in
     let whole : Takes s (big_bytes 2 a.value ++ (big_bytes 1 b.value ++ (big_bytes 4 p.addr ++ (big_bytes 8 f.value ++ big_bytes 8 g.value)))) g.next
-        = subst (λ (n : ℕ). Takes s (big_bytes 2 a.value ++ (big_bytes 1 b.value ++ (big_bytes 4 n ++ (big_bytes 8 f.value ++ big_bytes 8 g.value)))) g.next) (sym same) ag in
+    = subst (λ (n : ℕ). Takes s (big_bytes 2 a.value ++ (big_bytes 1 b.value ++ (big_bytes 4 n ++ (big_bytes 8 f.value ++ big_bytes 8 g.value)))) g.next) (sym same) ag in
     let small : a.value < 2 ^ 16 = a.value_fits in
     let begin : f.value < 2 ^ 64 = f.value_fits in
     let end : g.value < 2 ^ 64 = g.value_fits in
     let addr : d.value < 2 ^ 32 = d.value_fits in
-    subst (Behind 3 s) (ok_is (Broken 0 a.value p f.value g.value, g.next) (v, new) g.goes_on)
-        ((refl, small, masked_fits d.value b.value addr (leb-true _ _ len_is.0), begin, end),
-        λ before tag. Takes-then before (big_bytes 1 3) s (big_bytes 2 a.value ++ (big_bytes 1 b.value ++ (big_bytes 4 p.addr ++ (big_bytes 8 f.value ++ big_bytes 8 g.value)))) g.next tag whole)
+    subst (Behind 3 s) (ok_is (Broken 0 a.value p f.value g.value, g.next) (v, new) g.goes_on) (
+      (refl, small, masked_fits d.value b.value addr (leb-true _ _ len_is.0), begin, end),
+      λ before tag. Takes-then before (big_bytes 1 3) s (big_bytes 2 a.value ++ (big_bytes 1 b.value ++ (big_bytes 4 p.addr ++ (big_bytes 8 f.value ++ big_bytes 8 g.value)))) g.next tag whole,
+    )
 
 pub claim_takes : ReadsSpelled claim_at IsClaim claim_bytes
 unfolding claim_at
@@ -97,12 +98,12 @@ claim_takes s v new fits e =
     elim (by_test (eqb a.value 1) _ _ _ a.goes_on) [
       | inl one ↦ let w = conflict_takes a.next v new a.takes.rest_fits one.1 in (w.0, w.1 s (tagged 1 one.0))
       | inr other ↦ elim (by_test (eqb a.value 2) _ _ _ other.1) [
-          | inl two ↦ let w = wrong_takes a.next v new a.takes.rest_fits two.1 in (w.0, w.1 s (tagged 2 two.0))
-          | inr more ↦ elim (by_test (eqb a.value 3) _ _ _ more.1) [
-              | inl three ↦ let w = broken_takes a.next v new a.takes.rest_fits three.1 in (w.0, w.1 s (tagged 3 three.0))
-              | inr none ↦ absurd cc
-            ]
+        | inl two ↦ let w = wrong_takes a.next v new a.takes.rest_fits two.1 in (w.0, w.1 s (tagged 2 two.0))
+        | inr more ↦ elim (by_test (eqb a.value 3) _ _ _ more.1) [
+          | inl three ↦ let w = broken_takes a.next v new a.takes.rest_fits three.1 in (w.0, w.1 s (tagged 3 three.0))
+          | inr none ↦ absurd cc
         ]
+      ]
     ]
 
 -- ---- read again
@@ -124,7 +125,7 @@ cidr_is p h = λ i. record { addr = h.clear i; len = p.len }
 
 broken_again : (r : ℕ) (p : Cidr) (begin end at : ℕ) (rest : List ℕ) → IsClaim (Broken 0 r p begin end)
     → broken_at (spot at (big_bytes 2 r ++ (big_bytes 1 p.len ++ (big_bytes 4 p.addr ++ (big_bytes 8 begin ++ (big_bytes 8 end ++ rest))))))
-      ≡ Ok (Broken 0 r p begin end, spot (at + length (big_bytes 2 r) + length (big_bytes 1 p.len) + length (big_bytes 4 p.addr) + length (big_bytes 8 begin) + length (big_bytes 8 end)) rest)
+    ≡ Ok (Broken 0 r p begin end, spot (at + length (big_bytes 2 r) + length (big_bytes 1 p.len) + length (big_bytes 4 p.addr) + length (big_bytes 8 begin) + length (big_bytes 8 end)) rest)
 unfolding broken_at
 broken_again r p begin end at rest fits =
     let short : p.len < 256 ^ 1 = omega (arith, fits.2.len) in
@@ -153,7 +154,7 @@ claim_again (Conflict a) at rest fits =
     let spelled : claim_bytes (Conflict a) ++ rest ≡ big_bytes 1 1 ++ (authenticator a ++ rest) = append_assoc (big_bytes 1 1) (authenticator a) rest in
     let places : at1 + length (authenticator a) ≡ at + length (claim_bytes (Conflict a)) = omega (arith, length-append (big_bytes 1 1) (authenticator a)) in
     let whole : claim_at (spot at (big_bytes 1 1 ++ (authenticator a ++ rest))) ≡ Ok (Conflict a, spot (at1 + length (authenticator a)) rest)
-        = reads_then _ _ _ _ (number_again 1 1 at (authenticator a ++ rest) (lit< tt)) (conflict_again a at1 rest fits) in
+    = reads_then _ _ _ _ (number_again 1 1 at (authenticator a ++ rest) (lit< tt)) (conflict_again a at1 rest fits) in
     ap (λ (t : List ℕ). claim_at (spot at t)) spelled ∙ whole ∙ ap (λ (k : ℕ). Ok (Conflict a, spot k rest)) places
 claim_again (Wrong seq cause) at rest fits =
     let at1 = at + length (big_bytes 1 2) in
@@ -187,7 +188,7 @@ claims_take (suc n) s v new fits e =
     let made : List Claim = a.value ∷ b.value in
     let whole : Takes s (flat_map claim_bytes made) b.next = subst (λ (t : List ℕ). Takes s t b.next) (sym (flat_map-cons claim_bytes a.value b.value)) both in
     subst (λ (p : List Claim × Spot). AreClaims (suc n) p.0 × Takes s (flat_map claim_bytes p.0) p.1) (ok_is (made, b.next) (v, new) b.goes_on)
-        (record { each = (a.value_fits, b.value_fits.each); as_many = ap suc b.value_fits.as_many }, whole)
+    (record { each = (a.value_fits, b.value_fits.each); as_many = ap suc b.value_fits.as_many }, whole)
 
 again_of : (claims : List Claim) (at : ℕ) (rest : List ℕ) → AllByRecursion IsClaim claims
     → counted_at claim_at (length claims) (record { at = at; rest = flat_map claim_bytes claims ++ rest }) ≡ Ok (claims, record { at = at + length (flat_map claim_bytes claims); rest = rest })

@@ -6,7 +6,8 @@ ghost use Rattle.nr_spec_evidence.specs.Evidence.{EvidenceFile, IsEvidence, evid
 
 /// What is read as an evidence file fits, and the file is its spelling, all of it.
 pub fn evidence_file_found()
-    ensures { (bytes : List ℕ) (e : EvidenceFile) → IsBytes bytes → evidence_of bytes ≡ Ok e → IsEvidence e × (bytes ≡ evidence_file e) }
+    ensures { (bytes : List ℕ) (e : EvidenceFile) → IsBytes bytes → evidence_of bytes ≡ Ok e
+        → IsEvidence e × (bytes ≡ evidence_file e) }
 {}
 
 /// The spelling of evidence that fits is read as that evidence.

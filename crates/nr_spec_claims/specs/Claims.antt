@@ -43,7 +43,8 @@ same_span s t = s.begin == t.begin && s.end == t.end
 unfoldable pub is_broken_run : List PromiseFile → Truth → Base → Period → List LogEntry → Key → Span → Bool
 is_broken_run files truth base period entries key span =
     list_any (same_span span)
-    (filter (is_broken files key) (runs_of period.to (map (moment_at files truth key) (moments files base period entries))))
+    (filter (is_broken files key)
+    (runs_of period.to (map (moment_at files truth key) (moments files base period entries))))
 
 -- ---- claims
 
@@ -56,7 +57,8 @@ is_true_claim root files truth base answer period (Conflict auth) =
 is_true_claim root files truth base answer period (Wrong seq cause) =
     is_wrong_entry (numbers_of_all files) base period answer.first answer.entries seq cause
 is_true_claim root files truth base answer period (Broken file promise prefix begin end) =
-    is_broken_run (promise_files files) truth base period answer.entries (key_of file promise prefix) (span_of begin end)
+    is_broken_run (promise_files files) truth base period answer.entries (key_of file promise prefix)
+    (span_of begin end)
 
 -- the same fact where an audit is refused
 abbrev pub in_place : {A B : Type 0} → B → Result A Fact → Result B Fact

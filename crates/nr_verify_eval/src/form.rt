@@ -24,7 +24,8 @@ fn all_hold<'s, 'a>(
     things: &mut Things<'s, 'a>,
     members: &[Typing],
 ) -> Result<bool, Memory>
-    ensures value { IfOk result (λ held. held ≡ list_all (λ member. holds_where neighbours.now (scene_of prefix.now routes.now) member things.old) members.now) }
+    ensures value { IfOk result (λ held. held ≡ list_all
+        (λ member. holds_where neighbours.now (scene_of prefix.now routes.now) member things.old) members.now) }
     ensures same { OnOk result (things.new ≡ things.old) }
 {
     for member in members {
@@ -44,7 +45,8 @@ fn one_holds<'s, 'a>(
     things: &mut Things<'s, 'a>,
     members: &[Typing],
 ) -> Result<bool, Memory>
-    ensures value { IfOk result (λ held. held ≡ list_any (λ member. holds_where neighbours.now (scene_of prefix.now routes.now) member things.old) members.now) }
+    ensures value { IfOk result (λ held. held ≡ list_any
+        (λ member. holds_where neighbours.now (scene_of prefix.now routes.now) member things.old) members.now) }
     ensures same { OnOk result (things.new ≡ things.old) }
 {
     for member in members {
@@ -65,7 +67,8 @@ fn holds_with<'s, 'a>(
     n: u16,
     form: &Typing,
 ) -> Result<bool, Memory>
-    ensures value { IfOk result (λ held. held ≡ of_neighbour (holds_where neighbours.now (scene_of prefix.now routes.now) form.now) things.old n) }
+    ensures value { IfOk result (λ held. held ≡ of_neighbour
+        (holds_where neighbours.now (scene_of prefix.now routes.now) form.now) things.old n) }
     ensures same { OnOk result (things.new ≡ things.old) }
 {
     things.push_neighbour(n)?;
@@ -84,7 +87,8 @@ fn holds_on<'s, 'a>(
     found: &'s Attrs<'a>,
     form: &Typing,
 ) -> Result<bool, Memory>
-    ensures value { IfOk result (λ held. held ≡ holds_where neighbours.now (scene_of prefix.now routes.now) form.now (things.old ++ route found.now ∷ [])) }
+    ensures value { IfOk result (λ held. held ≡ holds_where neighbours.now (scene_of prefix.now routes.now) form.now
+        (things.old ++ route found.now ∷ [])) }
     ensures same { OnOk result (things.new ≡ things.old) }
 {
     things.push_route(found)?;
@@ -103,7 +107,8 @@ fn holds_for_all<'s, 'a>(
     group: &[u16],
     form: &Typing,
 ) -> Result<bool, Memory>
-    ensures value { IfOk result (λ held. held ≡ list_all (of_neighbour (holds_where neighbours.now (scene_of prefix.now routes.now) form.now) things.old) group.now) }
+    ensures value { IfOk result (λ held. held ≡ list_all
+        (of_neighbour (holds_where neighbours.now (scene_of prefix.now routes.now) form.now) things.old) group.now) }
     ensures same { OnOk result (things.new ≡ things.old) }
 {
     for n in group {
@@ -124,7 +129,8 @@ fn holds_for_one<'s, 'a>(
     group: &[u16],
     form: &Typing,
 ) -> Result<bool, Memory>
-    ensures value { IfOk result (λ held. held ≡ list_any (of_neighbour (holds_where neighbours.now (scene_of prefix.now routes.now) form.now) things.old) group.now) }
+    ensures value { IfOk result (λ held. held ≡ list_any
+        (of_neighbour (holds_where neighbours.now (scene_of prefix.now routes.now) form.now) things.old) group.now) }
     ensures same { OnOk result (things.new ≡ things.old) }
 {
     for n in group {
@@ -144,7 +150,8 @@ fn holds_at<'s, 'a>(
     things: &mut Things<'s, 'a>,
     form: &Typing,
 ) -> Result<bool, Memory>
-    ensures value { IfOk result (λ held. held ≡ holds_where neighbours.now (scene_of prefix.now routes.now) form.now things.old) }
+    ensures value { IfOk result (λ held.
+        held ≡ holds_where neighbours.now (scene_of prefix.now routes.now) form.now things.old) }
     ensures same { OnOk result (things.new ≡ things.old) }
 {
     match form {

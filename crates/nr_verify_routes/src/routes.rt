@@ -90,14 +90,16 @@ impl<'a> Routes<'a> {
 
     /// No route with a neighbour is left.
     pub fn empty(&mut self, neighbour: u16)
-        ensures { (d : directions.Direction) (n : ℕ) → spec.held self.new d n ≡ (if neighbour == n then None else spec.held self.old d n) }
+        ensures { (d : directions.Direction) (n : ℕ)
+            → spec.held self.new d n ≡ (if neighbour == n then None else spec.held self.old d n) }
     {
         self.rows.retain(|row| row.neighbour != neighbour);
     }
 
     /// No route in a direction with a neighbour is left.
     pub fn forget(&mut self, direction: Direction, neighbour: u16)
-        ensures { (d : directions.Direction) (n : ℕ) → spec.held self.new d n ≡ (if spec.is_side direction neighbour d n then None else spec.held self.old d n) }
+        ensures { (d : directions.Direction) (n : ℕ) → spec.held self.new d n
+            ≡ (if spec.is_side direction neighbour d n then None else spec.held self.old d n) }
     {
         self.rows.retain(|row| !is_of(direction, neighbour, row));
     }
@@ -109,7 +111,8 @@ impl<'a> Routes<'a> {
         neighbour: u16,
         attrs: Attrs<'a>,
     ) -> Result<(), Memory>
-        ensures { OnOk result ((d : directions.Direction) (n : ℕ) → spec.held self.new d n ≡ (if spec.is_side direction neighbour d n then Some attrs.entry else spec.held self.old d n)) }
+        ensures { OnOk result ((d : directions.Direction) (n : ℕ) → spec.held self.new d n
+            ≡ (if spec.is_side direction neighbour d n then Some attrs.entry else spec.held self.old d n)) }
     {
         self.forget(direction, neighbour);
         self.rows.push(Route {

@@ -11,7 +11,7 @@ pub returns-in_err-pass_claim-clause-value : goal.returns-in_err-pass_claim-clau
 returns-in_err-pass_claim-clause-value c =
     let p = err_from_is_err_and c.from_residual.result c.from_residual.ensures.1 in
     let failed = stop-fails claim_at c.args.count c.loop.counter c.loop.cursor (offset_of c.in_err-pass_claim.field-0.0)
-        (counted_at claim_at c.args.count c.fork-start.result) c.loop-test.true c.in_err-pass_claim.ensures.value c.loop.invariant.so_far in
+    (counted_at claim_at c.args.count c.fork-start.result) c.loop-test.true c.in_err-pass_claim.ensures.value c.loop.invariant.so_far in
     rw (p.1, p.2) (subst (λ (s : Spot). counted_at claim_at c.args.count s ≡ Err (offset_of c.in_err-pass_claim.field-0.0)) c.loop.invariant.started failed)
 
 pub loop-preserved : goal.loop-preserved
