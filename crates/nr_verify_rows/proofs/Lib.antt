@@ -1,0 +1,4 @@
+pub mod Order
+pub mod Covering
+pub mod Pieces
+pub mod Emptied
