@@ -218,3 +218,35 @@ module _ (root : List ℕ) (files : List Audited) (truth : Truth) (answer : Answ
       ap (in_place told) g.1
       ∙ ap (λ (l : List Bool). Ok l) (each_true (is_true_claim root files truth nothing_before answer period) (claims_of r)
       (λ c k. all_true root files truth nothing_before answer period auths c (subst (λ (x : Report). IsOneOf c (claims_of x)) (sym g.0) k)))
+
+-- ---- the facts are the audit's
+
+module _ (told : List Bool) where
+  fact_same : (fact : Option Fact) (x y : Result Report Fact) → in_place told x ≡ in_place told y
+      → in_place told (refused_by fact x) ≡ in_place told (refused_by fact y)
+  fact_same (Some f) x y e = refl
+  fact_same None x y e = e
+
+  test_same : (test : Bool) (fact : Fact) (x y : Result Report Fact) → in_place told x ≡ in_place told y
+      → in_place told (holds_or test fact x) ≡ in_place told (holds_or test fact y)
+  test_same true fact x y e = e
+  test_same false fact x y e = refl
+
+module _ (root : List ℕ) (files : List Audited) (truth : Truth) (answer : AnswerFile) (period : Period) where
+  -- whatever authenticators are presented
+  outcome_same : (told : List Bool) (auths others : List Authenticator)
+      → in_place told (outcome root files truth answer period auths) ≡ in_place told (outcome root files truth answer period others)
+  unfolding outcome outcome_over
+  outcome_same told auths others =
+      test_same told (answer.first == 1) Form (ours root files truth answer period auths) (ours root files truth answer period others)
+      (fact_same told (network_fact answer.asn files) (signed root files truth answer period auths) (signed root files truth answer period others)
+      (test_same told (is_signed root answer.head) Unsigned (chained root files truth answer period auths) (chained root files truth answer period others)
+      (test_same told (bytes_eq answer.head.hash (answer_value answer)) (Head answer.head.hash (answer_value answer)) (long root files truth answer period auths) (long root files truth answer period others)
+      (test_same told (not (nat_le answer.head.time period.to)) (Short answer.head.time period.to) (in_force root files truth answer period auths) (in_force root files truth answer period others)
+      (fact_same told (promise_fact (numbers_of_all files) (digests_in_force nothing_before period answer.entries)) (last root files truth answer period auths) (last root files truth answer period others) refl)))))
+
+  pub as_audited : (auths : List Authenticator) (claims : List Claim)
+      → judged root files truth answer period claims
+      ≡ in_place (map (is_true_claim root files truth nothing_before answer period) claims) (outcome root files truth answer period auths)
+  unfolding judged
+  as_audited auths claims = outcome_same (map (is_true_claim root files truth nothing_before answer period) claims) [] auths

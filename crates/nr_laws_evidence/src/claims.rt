@@ -17,12 +17,12 @@ pub fn claim_spelled_reads()
     ensures { SpelledReads claim_at IsClaim claim_bytes }
 {}
 
-/// So many claims are read as they are spelled.
+/// What is read as so many claims fits, and the bytes taken are their spelling.
 pub fn claims_read_spelled()
     ensures { (n : ℕ) → ReadsSpelled (counted_at claim_at n) (AreClaims n) (flat_map claim_bytes) }
 {}
 
-/// And spelled as they are read.
+/// The spelling of so many claims that fit is read as these, whatever stands after it.
 pub fn claims_spelled_read()
     ensures { (n : ℕ) → SpelledReads (counted_at claim_at n) (AreClaims n) (flat_map claim_bytes) }
 {}

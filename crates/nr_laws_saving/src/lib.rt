@@ -1,6 +1,6 @@
-//! The laws of files that are saved in pieces, and of evidence, over the plans that do it: what a run leaves however it
-//! ended, and what a crash at any moment may leave. The functions have no code: each is a theorem, which its contract
-//! states.
+//! The laws of files that are saved in pieces, over the plans that do it: what a run leaves however it ended, and what a
+//! crash at any moment may leave; and what a run leaves of evidence. The functions have no code: each is a theorem, which
+//! its contract states.
 #![tactic(auto)]
 
 mod evidence;

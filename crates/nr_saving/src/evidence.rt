@@ -15,7 +15,7 @@ use nr_evidence_file::write_parts;
 use nr_ports::Files;
 use std::alloc::Global;
 
-/// Saves evidence on an answer of these bytes in its pieces. All memory for them is taken before the file is cut.
+/// Saves evidence on an answer of these bytes in its pieces. All memory of its own is taken before the file is cut.
 /// `TooLong` comes exactly where the file would be longer than 3,221,225,472 bytes, and says how long; no file is
 /// touched then. A fault leaves any part of the evidence behind.
 pub fn save_evidence<F: Files>(

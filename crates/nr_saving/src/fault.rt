@@ -12,7 +12,7 @@ pub enum SaveError {
     TooLong(u64),
     /// The outside failed, and counts a fault.
     Failed,
-    /// Memory ran out.
+    /// Memory ran out: before the file was cut, or in a call on it, which leaves any part of the evidence.
     Memory,
 }
 

@@ -1,4 +1,4 @@
--- When a claim of an audit is true: by the answer, the promise files and the period alone.
+-- When a claim of an audit is true: by the root, the answer, the promise files and the period alone.
 use Rattle.std.specs.Prelude.{ℕ, ◌-◌, ◌&&◌, ◌==◌, [], Bool, Err, List, None, Ok, Option, Result, Some, false, filter, map, nat_le, slice_get, take}
 use Rattle.std.specs.List.{list_any}
 use Rattle.nr_spec_log.specs.Chain.{LogEntry}
@@ -22,7 +22,7 @@ abbrev pub has_number : ℕ → Option Cause → Bool
 has_number number None = false
 has_number number (Some cause) = cause_number cause == number
 
--- an entry with this number, which stands after these, is there, has its time in the period, and this cause
+-- There is such an entry, its time is in the period, and its first cause, by these before it, has this number.
 abbrev pub is_wrong_at : List Numbers → Base → Period → ℕ → ℕ → List LogEntry → Option LogEntry → Bool
 is_wrong_at files base period seq cause past None = false
 is_wrong_at files base period seq cause past (Some e) =

@@ -52,6 +52,6 @@ saving_evidence name e =
     if nat_lt most_evidence (length (evidence_file e))
     then Refuse (record { found = length (evidence_file e) }) else save_parts name (evidence_parts e)
 
--- the same, after all that is wanted of memory
+-- the same, after all memory that it wants itself; a call on the file may want more
 unfoldable pub save_evidence : (name : List ℕ) → EvidenceFile → Plan TooLong (Unit {0})
 save_evidence name e = Room (saving_evidence name e)

@@ -45,7 +45,7 @@ fn is_of(direction: Direction, neighbour: u16, row: &Route<'_>) -> bool
     same_direction(direction, row.direction) && neighbour == row.neighbour
 }
 
-/// The routes of one prefix, at most one for each direction and neighbour.
+/// The routes of one prefix. Of a direction and a neighbour the first counts.
 #[derive(Drop)]
 pub struct Routes<'a> {
     rows: Vec<Route<'a>>,

@@ -15,7 +15,7 @@ use std::alloc::Global;
 
 /// Whether the entry of this number is wrong by the cause of that number: whether it is there, has its time in the
 /// period, and the first cause that holds of it, by the entries before it and the numbers of the audited promise files,
-/// is this one. The entries are those of a whole log, from entry 1 on. No entry behind the claimed one is read.
+/// is this one. The entries are those of a whole log, from entry 1 on.
 pub fn is_wrong(
     alloc: Global,
     files: &[FileNumbers],
