@@ -18,7 +18,7 @@ pub form_refuses : (root : List ℕ) (promise : PromiseFile) (answer : AnswerFil
 unfolding outcome
 form_refuses root promise answer period auths other =
     let files = audited_by promise ∷ [] in
-    ap (λ (b : Bool). concluded (promise_files files) (holds_or b Form (outcome_over root files (meant (promise.says ∷ [])) nothing_before answer period auths))) (ne_eqb answer.first 1 other)
+    ap (λ (b : Bool). concluded (holds_or b Form (outcome_over root files (meant (promise.says ∷ [])) nothing_before answer period auths))) (ne_eqb answer.first 1 other)
 
 -- the promises of the one file are known, and few
 pub one_known : (audited : Audited) (promise : PromiseFile) → audited ≡ audited_by promise

@@ -1,5 +1,5 @@
 -- The words of the command line: which lists of words are taken, and what they ask for.
-use Rattle.std.specs.Prelude.{ℕ, Bool, true, false, ◌&&◌, ◌||◌, not, nat_le, if◌then◌else◌, List, [], ◌∷◌, length, slice_get, Option, None, Some, codes, option_map}
+use Rattle.std.specs.Prelude.{ℕ, Bool, true, false, ◌&&◌, not, nat_le, if◌then◌else◌, List, [], ◌∷◌, length, slice_get, Option, None, Some, codes, option_map}
 use Rattle.std.specs.List.{list_any}
 use Rattle.std.specs.Result.{result_ok}
 use Rattle.std.specs.Str.{bytes_eq, all_ascii_digits}
@@ -47,23 +47,39 @@ value_at values at = slice_get values.options at >>= λ value. value
 abbrev pub required : List ℕ → OptionRule
 required name = record { name = name; required = true }
 
--- `audit --root HEX --promise F --answer F --auths F --from N --to N`
+-- the option `--NAME VALUE`, which may be given
+abbrev pub optional : List ℕ → OptionRule
+optional name = record { name = name; required = false }
+
+-- no two of these names are equal
+abbrev pub are_apart : List (List ℕ) → Bool
+are_apart [] = true
+are_apart (name ∷ others) = not (list_any (bytes_eq name) others) && are_apart others
+
+-- the name that an option gives, where it is given
+abbrev pub named : Option (List ℕ) → List (List ℕ)
+named None = []
+named (Some name) = name ∷ []
+
+-- `audit --root HEX --promise F --answer F --auths F --from N --to N [--evidence F]`
 abbrev pub audit_grammar : Grammar
 audit_grammar = record {
   command = codes "audit";
   options =
       required (codes "root") ∷ required (codes "promise") ∷ required (codes "answer") ∷ required (codes "auths")
-      ∷ required (codes "from") ∷ required (codes "to") ∷ [];
+      ∷ required (codes "from") ∷ required (codes "to") ∷ optional (codes "evidence") ∷ [];
   files = false;
 }
 
--- what `audit` is asked for: the root of the audited network, the names of three files, and a period
+-- what `audit` is asked for: the root of the audited network, the names of three files, a period, and the name of the
+-- evidence file, if one is given
 pub record AuditRequest : Type 0 where
   pub root : List ℕ
   pub promise : List ℕ
   pub answer : List ℕ
   pub auths : List ℕ
   pub period : Period
+  pub evidence : Option (List ℕ)
 
 -- Two equal file words aren't taken, nor is a period that runs back.
 unfoldable pub audit_in : Values → Option AuditRequest
@@ -78,9 +94,16 @@ audit_in values = do
   from ← number_in from_word
   to ← number_in to_word
   period ← period_between from to
-  if bytes_eq promise answer || (bytes_eq promise auths || bytes_eq answer auths)
-      then None
-      else Some (record { root = root; promise = promise; answer = answer; auths = auths; period = period })
+  if are_apart (promise ∷ answer ∷ auths ∷ named (value_at values 6))
+      then Some (record {
+        root = root;
+        promise = promise;
+        answer = answer;
+        auths = auths;
+        period = period;
+        evidence = value_at values 6;
+      })
+      else None
 
 -- `keygen --as N --height N --seed F --key F`
 abbrev pub keygen_grammar : Grammar
@@ -126,15 +149,6 @@ unfoldable pub check_in : Values → Option CheckRequest
 check_in values = do
   promise ← value_at values 0
   Some (record { promise = promise })
-
--- the option `--NAME VALUE`, which may be given
-abbrev pub optional : List ℕ → OptionRule
-optional name = record { name = name; required = false }
-
--- no two of these names are equal
-abbrev pub are_apart : List (List ℕ) → Bool
-are_apart [] = true
-are_apart (name ∷ others) = not (list_any (bytes_eq name) others) && are_apart others
 
 -- `record --promise F --key F --log F [--until N] [MRT files]`
 abbrev pub record_grammar : Grammar

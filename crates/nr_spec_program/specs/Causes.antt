@@ -8,10 +8,11 @@ use Rattle.nr_spec_plans.specs.Disk.{Contents, Disk, Tape, Fault, Memory, Cuts, 
 use Rattle.nr_spec_plans.specs.Plans.{Action, Done, Ask, Read, Cut, Write, Sync, Halt, Refused, Faulted, Runs}
 use Rattle.nr_spec_plans.specs.Laws.{IsAmong, IsRead, Unchanged, fault_in, outcome, reads_after, writes_after}
 use Rattle.nr_spec_plans.specs.Steps.{OnlyBy}
-use Rattle.nr_spec_commands.specs.Words.{Request, KeygenRequest, Audit, Keygen, Check, Record, Answer}
+use Rattle.nr_spec_outcome.specs.Report.{Report}
+use Rattle.nr_spec_commands.specs.Words.{named, Request, KeygenRequest, Audit, Keygen, Check, Record, Answer}
 use Rattle.nr_spec_program.specs.Promises.{PromiseFile}
 use Rattle.nr_spec_program.specs.Command as command
-use Rattle.nr_spec_program.specs.Command.{Input, PromiseInput, AnswerInput, AuthsInput, KeyInput, LogInput, MrtInput, LogFact, KeySpent, LongLog, NoFile, Limit, Malformed, Prevented, Work, Ending, Refusal, refusal_ending, fault_ending, key_ending, promise_ending, key_plan, judged}
+use Rattle.nr_spec_program.specs.Command.{Input, PromiseInput, AnswerInput, AuthsInput, KeyInput, LogInput, MrtInput, LogFact, KeySpent, LongEvidence, LongLog, NoFile, Limit, Malformed, Prevented, Work, Ending, Refusal, refusal_ending, fault_ending, key_ending, promise_ending, key_plan, judged, audit_ending}
 use Rattle.nr_spec_program.specs.Recording.{answered_ending, recorded_ending}
 
 -- ---- counts
@@ -33,12 +34,12 @@ pub record NoneRose (old new : Disk) (before after : Tape) : Type 0 where
 
 -- ---- what ended the work
 
--- The endings of a request that nothing stopped. That of an audit is what an answer and authenticators show by a promise
--- file.
+-- The endings of a request that nothing stopped. That of an audit tells what an answer and authenticators show by a
+-- promise file.
 abbrev pub EndOf : Request → Ending → Type 0
 EndOf (Audit q) e =
-    (promise : PromiseFile) × (answer : AnswerFile) × (auths : List Authenticator)
-    × (judged q.root promise answer q.period auths ≡ Done e)
+    (promise : PromiseFile) × (answer : AnswerFile) × (auths : List Authenticator) × (report : Report)
+    × (judged q.root promise answer q.period auths ≡ Done report) × (e ≡ audit_ending promise report)
 EndOf (Keygen q) e = (key : Key) × (e ≡ key_ending key)
 EndOf (Check q) e = (promise : PromiseFile) × (e ≡ promise_ending promise)
 EndOf (Record q) e = (before after : LogFile) × ((skips : ℕ) × (e ≡ recorded_ending before after skips))
@@ -112,7 +113,7 @@ log_names (Answer q) = q.log ∷ []
 
 -- the files that a request may write
 abbrev pub written_names : Request → List (List ℕ)
-written_names (Audit q) = []
+written_names (Audit q) = named q.evidence
 written_names (Keygen q) = q.key ∷ []
 written_names (Check q) = []
 written_names (Record q) = q.log ∷ []
@@ -180,6 +181,7 @@ names_asked request (Limit input found) = names_until request input
 names_asked request (Malformed input place) = names_until request input
 names_asked request (command.Refused fact) = read_names request
 names_asked request (Prevented fact) = read_names request
+names_asked request (LongEvidence found) = read_names request
 
 -- The files that were read: not one that is absent or past its limit.
 abbrev pub names_read : Request → Refusal → List (List ℕ)
@@ -188,6 +190,7 @@ names_read request (Limit input found) = names_before request input
 names_read request (Malformed input place) = names_until request input
 names_read request (command.Refused fact) = read_names request
 names_read request (Prevented fact) = read_names request
+names_read request (LongEvidence found) = read_names request
 
 -- The log that was synced: none that is absent or past its limit, and none where a file before it is refused.
 abbrev pub names_synced : Request → Refusal → List (List ℕ)
@@ -232,7 +235,7 @@ Answered P e status = P status ⊎ P e.status
 
 -- the statuses with which nothing was written
 abbrev pub WroteNothing : ℕ → Type 0
-WroteNothing status = (status ≢ 0) × (status ≢ 5) × (status ≢ 6)
+WroteNothing status = (status ≢ 0) × (status ≢ 1) × (status ≢ 5) × (status ≢ 6)
 
 -- the ending of a value, or of a refusal
 abbrev pub ended : Result Ending Refusal → Ending

@@ -1,6 +1,8 @@
 -- What the program does with files: its inputs, refusals and endings, and the plans of `check`, `audit` and `keygen`.
-use Rattle.std.specs.Prelude.{ℕ, nat_le, if◌then◌else◌, List, [], ◌∷◌, ◌++◌, Option, None, Some, Result, Ok, Err, codes}
+use Rattle.std.specs.Prelude.{ℕ, ◌+◌, nat_le, nat_lt, if◌then◌else◌, List, [], ◌∷◌, ◌++◌, length, Option, None, Some, Result, Ok, Err, codes}
+use Rattle.std.specs.List.{flat_map}
 use Rattle.std.specs.Fmt.{decimal}
+use Rattle.byteorder.specs.Endian.{big_bytes}
 use Rattle.hex.specs.Hex.{encode_lower}
 use Rattle.nr_spec_log.specs.Authenticator.{Authenticator, auths_of}
 use Rattle.nr_spec_log.specs.Answer.{AnswerFile, answer_of}
@@ -12,13 +14,15 @@ use Rattle.nr_spec_steps.specs.Steps.{Spent}
 use Rattle.nr_spec_steps.specs.Telling.{most_raw}
 use Rattle.nr_spec_store.specs.LogFile.{most_log}
 use Rattle.nr_spec_report.specs.Claims.{Claim}
+use Rattle.nr_spec_evidence.specs.Evidence.{EvidenceFile, claim_bytes, evidence_file, evidence_front, most_evidence}
+use Rattle.nr_spec_evidence.specs.Evidence as evidence
 use Rattle.nr_spec_outcome.specs.Report.{Report, claims_of}
 use Rattle.nr_spec_outcome.specs.Lines.{report_text}
 use Rattle.nr_spec_outcome.specs.Outcome.{Fact, Form, Network, Unsigned, Head, Short, Promise, outcome, promise_files}
 use Rattle.nr_spec_promises.specs.Files as files
 use Rattle.nr_spec_truth.specs.Truths.{meant}
 use Rattle.nr_spec_plans.specs.Disk.{Fault, ReadFault, WriteFault, Memory}
-use Rattle.nr_spec_plans.specs.Plans.{Plan, Done, Refuse, Room, act, want, Ask, Read, save, ◌>>=◌}
+use Rattle.nr_spec_plans.specs.Plans.{Plan, Done, Refuse, Room, act, want, Ask, Read, Cut, Write, Sync, save, ◌>>=◌}
 use Rattle.nr_spec_program.specs.Promises.{PromiseFile, promise_of, audited_by}
 use Rattle.nr_spec_commands.specs.Words.{AuditRequest, CheckRequest, KeygenRequest}
 
@@ -84,6 +88,8 @@ pub data Refusal : Type 0 where
   Refused : (fact : Fact) → Refusal
   -- what the files say refuses the recording, or the answer
   Prevented : (fact : LogFact) → Refusal
+  -- the evidence would be longer than it may be
+  LongEvidence : (found : ℕ) → Refusal
 
 -- ---- reading input files
 
@@ -151,6 +157,11 @@ refusal_ending (Malformed input place) =
     record { status = 3; text = line (codes "malformed" ∷ input_name input ∷ decimal place ∷ []) }
 refusal_ending (Refused fact) = record { status = 7; text = line (codes "refused" ∷ fact_words fact) }
 refusal_ending (Prevented fact) = record { status = 7; text = line (codes "refused" ∷ log_fact_words fact) }
+refusal_ending (LongEvidence found) =
+    record {
+      status = 7;
+      text = line (codes "refused" ∷ codes "limit" ∷ codes "evidence" ∷ decimal found ∷ decimal most_evidence ∷ []);
+    }
 
 -- 1 where something is claimed
 abbrev pub report_status : List Claim → ℕ
@@ -169,16 +180,61 @@ key_ending key = record { status = 0; text = line (codes "root" ∷ encode_lower
 unfoldable pub promise_ending : PromiseFile → Ending
 promise_ending promise = record { status = 0; text = file_text promise.file }
 
--- the report by these promise files, where no fact refuses the audit
-abbrev pub concluded : List files.PromiseFile → Result Report Fact → Work Ending
-concluded promises (Ok report) = Done (report_ending promises report)
-concluded promises (Err fact) = Refuse (Refused fact)
+-- the report, where no fact refuses the audit
+abbrev pub concluded : Result Report Fact → Work Report
+concluded (Ok report) = Done report
+concluded (Err fact) = Refuse (Refused fact)
 
 -- what an answer shows by a promise file, whose formulas are true where they hold
-abbrev pub judged : List ℕ → PromiseFile → AnswerFile → Period → List Authenticator → Work Ending
+abbrev pub judged : List ℕ → PromiseFile → AnswerFile → Period → List Authenticator → Work Report
 judged root promise answer period auths =
-    concluded (promise_files (audited_by promise ∷ []))
-    (outcome root (audited_by promise ∷ []) (meant (promise.says ∷ [])) answer period auths)
+    concluded (outcome root (audited_by promise ∷ []) (meant (promise.says ∷ [])) answer period auths)
+
+-- how an audit by a promise file ends that gave a report
+abbrev pub audit_ending : PromiseFile → Report → Ending
+audit_ending promise report = report_ending (promise_files (audited_by promise ∷ [])) report
+
+-- ---- evidence
+
+-- the evidence of a report on an answer of these bytes
+abbrev pub evidence_of_report : (answer : List ℕ) → PromiseFile → Period → Report → EvidenceFile
+evidence_of_report answer promise period report = record {
+  answer = answer;
+  promise = promise.text;
+  period = period;
+  claims = claims_of report;
+}
+
+-- the pieces in which evidence is written, so that nobody holds the answer's bytes twice
+unfoldable pub evidence_parts : EvidenceFile → List (List ℕ)
+evidence_parts e =
+    evidence_front e.answer ∷ e.answer
+    ∷ (evidence.sized e.promise ++ (big_bytes 8 e.period.from ++ (big_bytes 8 e.period.to ++ big_bytes 4 (length e.claims))))
+    ∷ flat_map claim_bytes e.claims ∷ []
+
+-- writes pieces one after another from a place on, and syncs
+unfoldable pub write_parts : (name : List ℕ) (at : ℕ) → List (List ℕ) → Work (Unit {0})
+write_parts name at [] = act (Sync name)
+write_parts name at (part ∷ others) = do
+  wrote ← act (Write name at part)
+  write_parts name (at + length part) others
+
+-- cuts a file to nothing, writes these pieces and syncs it
+unfoldable pub save_parts : (name : List ℕ) → List (List ℕ) → Work (Unit {0})
+save_parts name parts = do
+  cut ← act (Cut name 0)
+  write_parts name 0 parts
+
+-- evidence that isn't too long is written after all that is wanted of memory
+abbrev pub saving_evidence : (name : List ℕ) → EvidenceFile → Work (Unit {0})
+saving_evidence name e =
+    if nat_lt most_evidence (length (evidence_file e))
+    then Refuse (LongEvidence (length (evidence_file e))) else save_parts name (evidence_parts e)
+
+-- the evidence, where it is asked for
+unfoldable pub evidence_plan : (name : Option (List ℕ)) → EvidenceFile → Work (Unit {0})
+evidence_plan None e = Done tt
+evidence_plan (Some name) e = Room (saving_evidence name e)
 
 abbrev pub usage_ending : Ending
 usage_ending = record { status = 2; text = line (codes "usage" ∷ []) }
@@ -214,7 +270,7 @@ check_plan q = do
   Done (promise_ending promise)
 
 -- The report on an answer, by one promise file, or the first thing that refuses it. No file is asked for after one that
--- is refused.
+-- is refused. The evidence is written and synced, where it is asked for, before the text is offered.
 unfoldable pub audit_plan : AuditRequest → Work Ending
 audit_plan q = do
   promise ← promise_plan q.promise
@@ -222,7 +278,10 @@ audit_plan q = do
   answer ← well_formed AnswerInput (answer_of answer_bytes)
   auths_bytes ← load AuthsInput q.auths
   auths ← well_formed AuthsInput (auths_of auths_bytes)
-  Room (judged q.root promise answer q.period auths)
+  report ← Room (judged q.root promise answer q.period auths)
+  room ← want
+  saved ← evidence_plan q.evidence (evidence_of_report answer_bytes promise q.period report)
+  Done (audit_ending promise report)
 
 -- the key that is asked for, by the seed file
 unfoldable pub key_plan : KeygenRequest → Work Key
