@@ -22,7 +22,7 @@ use Rattle.nr_store.specs.declared.fault.LoadError.TheVariants as load
 use Rattle.nr_store.specs.declared.fault.AppendError.{AppendError}
 use Rattle.nr_store.specs.declared.fault.AppendError.TheVariants as append
 use Rattle.nr_spec_program.specs.Command as command
-use Rattle.nr_spec_program.specs.Promises as promises
+use Rattle.nr_spec_texts.specs.Promises as promises
 use Rattle.nr_command_parts.specs.declared.promise_file.PromiseFile as declared_promise
 use Rattle.nr_command_parts.specs.declared.input.Input.{Input}
 use Rattle.nr_command_parts.specs.declared.input.Input.TheVariants as input

@@ -6,7 +6,7 @@ ghost use Rattle.nr_spec_log.specs.Answer.{answer_of};
 ghost use Rattle.nr_spec_log.specs.Authenticator.{auths_of};
 ghost use Rattle.nr_spec_history.specs.KeyFiles.{seed_of};
 ghost use Rattle.nr_bytes.specs.Views.{offset_of};
-ghost use Rattle.nr_spec_program.specs.Promises.{promise_of};
+ghost use Rattle.nr_spec_texts.specs.Promises.{promise_of};
 ghost use Rattle.nr_spec_program.specs.Command.{
   load,
   promise_plan,
@@ -51,7 +51,7 @@ pub fn read_input<F: Files>(
 }
 
 // What a text of promises says.
-#[tactic(auto, unfolding(nr_spec_program::specs::Promises::promise_of))]
+#[tactic(auto, unfolding(nr_spec_texts::specs::Promises::promise_of))]
 fn promise_from(alloc: Global, text: Vec<u8>) -> Result<PromiseFile, Stop>
     requires { length text.items ≤ 1048576 }
     ensures { Judges promise_file_of result (well_formed PromiseInput (promise_of text.items)) }

@@ -8,7 +8,7 @@ use Rattle.nr_spec_report.specs.Wrong.{nothing_before}
 use Rattle.nr_spec_truth.specs.Truths.{is_known, meant}
 use Rattle.nr_spec_outcome.specs.Outcome.{Audited, Form, holds_or, outcome, outcome_over, promise_files}
 use Rattle.nr_spec_plans.specs.Plans.{Refuse}
-use Rattle.nr_spec_program.specs.Promises.{PromiseFile, audited_by}
+use Rattle.nr_spec_texts.specs.Promises.{PromiseFile, audited_by}
 use Rattle.nr_spec_program.specs.Command.{Refused, concluded, judged}
 use Rattle.nr_judging.specs.Views.{AreFew, AreKnown}
 use Rattle.nr_judging.proofs.Known as known

@@ -2,7 +2,7 @@
 //! in.
 
 ghost use Rattle.std.specs.Prelude.{◌≡◌, ◌<◌, ◌≤◌, length};
-ghost use Rattle.nr_spec_program.specs.Promises.{audited_by};
+ghost use Rattle.nr_spec_texts.specs.Promises.{audited_by};
 ghost use Rattle.nr_spec_program.specs.Command.{audit_plan, judged};
 ghost use Rattle.nr_evidence.specs.Views.{period_of};
 ghost use Rattle.nr_audit.specs.Views.{audited_of};

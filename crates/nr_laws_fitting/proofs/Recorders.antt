@@ -31,7 +31,7 @@ use Rattle.nr_spec_typing.specs.Forms.{typed}
 use Rattle.nr_spec_typing.specs.Declarations.{TypedText, Known, nothing, is_group, is_define, is_new, declare, most_seconds, at_most, network, commit, is_like, is_neighbour_name, key_of, neighbour, members, group, pattern, define, places, promise, declaration, declarations, whole, whole_by, typed_text}
 use Rattle.nr_spec_typing.proofs.Fitting.{chained, passed, left, right}
 use Rattle.nr_spec_keys.proofs.LeafLemmas.{length-sha256}
-use Rattle.nr_spec_program.specs.Promises.{PromiseFile, numbers_in, promise_of}
+use Rattle.nr_spec_texts.specs.Promises.{PromiseFile, numbers_in, promise_of}
 use Rattle.nr_spec_steps.specs.Telling.{IsOwn, IsRecorder}
 use Rattle.nr_spec_log.specs.Authenticator.{magic_at}
 use Rattle.nr_spec_history.specs.KeyFiles.{Key, key_magic, seed_size}

@@ -12,7 +12,7 @@ use Rattle.nr_spec_evidence.specs.Evidence.{EvidenceFile, evidence_file, most_ev
 use Rattle.nr_spec_outcome.specs.Report.{Report}
 use Rattle.nr_spec_outcome.specs.Outcome.{Fact}
 use Rattle.nr_spec_commands.specs.Words.{AuditRequest, CheckRequest, KeygenRequest, Audit, Check, Keygen}
-use Rattle.nr_spec_program.specs.Promises.{PromiseFile, promise_of}
+use Rattle.nr_spec_texts.specs.Promises.{PromiseFile, promise_of}
 use Rattle.nr_spec_program.specs.Command.{Input, PromiseInput, AnswerInput, AuthsInput, SeedInput, Work, Ending, Refusal, NoFile, Limit, Malformed, load, sized, well_formed, LongEvidence, evidence_parts, evidence_plan, save_parts, write_parts, concluded, judged, promise_plan, check_plan, audit_plan, key_plan, keygen_plan, input_limit}
 use Rattle.nr_spec_program.specs.Table.{plan_of}
 use Rattle.nr_spec_program.specs.Command as command

@@ -14,8 +14,8 @@ use Rattle.nr_spec_outcome.specs.Report.{Report, claims_of}
 use Rattle.nr_spec_promises.specs.Files.{PromiseFile}
 use Rattle.nr_spec_outcome.specs.Outcome.{Fact, outcome, promise_files}
 use Rattle.nr_spec_truth.specs.Truths.{meant}
-use Rattle.nr_spec_program.specs.Promises as program
-use Rattle.nr_spec_program.specs.Promises.{promise_of, audited_by}
+use Rattle.nr_spec_texts.specs.Promises as program
+use Rattle.nr_spec_texts.specs.Promises.{promise_of, audited_by}
 use Rattle.nr_spec_commands.specs.Words.{AuditRequest, CheckRequest, KeygenRequest, Request, Answer, Audit, Check, Keygen, Record}
 use Rattle.nr_spec_program.specs.Command.{Input, Work, Ending, Refusal, NoFile, Limit, Malformed, Prevented, refusal_ending, load, sized, well_formed, LongEvidence, audit_ending, evidence_of_report, evidence_parts, evidence_plan, save_parts, write_parts, concluded, judged, promise_plan, check_plan, audit_plan, key_plan, keygen_plan, input_limit, promise_ending, report_ending, report_status, key_ending}
 use Rattle.nr_spec_program.specs.Recording.{answer_plan, answered_ending, record_plan, recorded_ending}

@@ -23,7 +23,7 @@ use Rattle.nr_spec_recording.specs.Records.{records_of}
 use Rattle.nr_spec_recording.specs.Events.{records_in_order, skipped, too_long}
 use Rattle.nr_spec_commands.specs.Words.{AnswerRequest, RecordRequest, Request, Answer, Audit, Check, Keygen, Record, request_in}
 use Rattle.nr_spec_program.specs.Keys.{key_of}
-use Rattle.nr_spec_program.specs.Promises.{PromiseFile}
+use Rattle.nr_spec_texts.specs.Promises.{PromiseFile}
 use Rattle.nr_spec_program.specs.Command.{Work, Ending, Refusal, LogFact, KeySpent, LongAnswer, LongLog, NoFile, Limit, Malformed, Prevented, Unsealed, KeyInput, LogInput, MrtInput, AnswerInput, input_limit, well_formed, promise_plan}
 use Rattle.nr_spec_program.specs.Recording.{answer_bytes, answer_plan, answered_ending, batch_plan, born_plan, entries_in, key_file_plan, log_network, log_plan, long_message, mrt_plan, other_network, other_root, present, record_plan, recorded_ending, recorder_of, sealed_answer, speakers_of, turned, turns_for, turns_plan, unless, unread_log, unwritten_log}
 use Rattle.nr_spec_program.specs.Running.{RunsTo}

@@ -206,6 +206,26 @@ answer_in values = do
   out ← value_at values 2
   if are_apart (key ∷ log ∷ out ∷ []) then Some (record { key = key; log = log; out = out }) else None
 
+-- `verify --root HEX --evidence F`
+abbrev pub verify_grammar : Grammar
+verify_grammar = record {
+  command = codes "verify";
+  options = required (codes "root") ∷ required (codes "evidence") ∷ [];
+  files = false;
+}
+
+-- what `verify` is asked for: the root of a network's key, and the name of a file of evidence
+pub record VerifyRequest : Type 0 where
+  pub root : List ℕ
+  pub evidence : List ℕ
+
+unfoldable pub verify_in : Values → Option VerifyRequest
+verify_in values = do
+  root_word ← value_at values 0
+  evidence ← value_at values 1
+  root ← root_in root_word
+  Some (record { root = root; evidence = evidence })
+
 -- ---- the table of commands
 
 pub data Request : Type 0 where
@@ -214,6 +234,7 @@ pub data Request : Type 0 where
   Check : (check : CheckRequest) → Request
   Record : (recording : RecordRequest) → Request
   Answer : (answer : AnswerRequest) → Request
+  Verify : (verifying : VerifyRequest) → Request
 
 abbrev pub audit_request : List (List ℕ) → Option Request
 audit_request words = values_in audit_grammar words >>= λ values. audit_in values >>= λ audit. Some (Audit audit)
@@ -231,6 +252,10 @@ record_request words =
 abbrev pub answer_request : List (List ℕ) → Option Request
 answer_request words = values_in answer_grammar words >>= λ values. answer_in values >>= λ answer. Some (Answer answer)
 
+abbrev pub verify_request : List (List ℕ) → Option Request
+verify_request words =
+    values_in verify_grammar words >>= λ values. verify_in values >>= λ verifying. Some (Verify verifying)
+
 -- what the words ask for, by the command word, which stands first
 unfoldable pub request_in : List (List ℕ) → Option Request
 request_in [] = None
@@ -240,4 +265,5 @@ request_in (command ∷ words) =
     else if bytes_eq command (codes "check") then check_request (command ∷ words)
     else if bytes_eq command (codes "record") then record_request (command ∷ words)
     else if bytes_eq command (codes "answer") then answer_request (command ∷ words)
+    else if bytes_eq command (codes "verify") then verify_request (command ∷ words)
     else None

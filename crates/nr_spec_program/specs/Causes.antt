@@ -9,11 +9,13 @@ use Rattle.nr_spec_plans.specs.Plans.{Action, Done, Ask, Read, Cut, Write, Sync,
 use Rattle.nr_spec_plans.specs.Laws.{IsAmong, IsRead, Unchanged, fault_in, outcome, reads_after, writes_after}
 use Rattle.nr_spec_plans.specs.Steps.{OnlyBy}
 use Rattle.nr_spec_outcome.specs.Report.{Report}
-use Rattle.nr_spec_commands.specs.Words.{named, Request, KeygenRequest, Audit, Keygen, Check, Record, Answer}
-use Rattle.nr_spec_program.specs.Promises.{PromiseFile}
+use Rattle.nr_spec_commands.specs.Words.{named, Request, KeygenRequest, Audit, Keygen, Check, Record, Answer, Verify}
+use Rattle.nr_spec_texts.specs.Promises.{PromiseFile}
 use Rattle.nr_spec_program.specs.Command as command
 use Rattle.nr_spec_program.specs.Command.{Input, PromiseInput, AnswerInput, AuthsInput, KeyInput, LogInput, MrtInput, LogFact, KeySpent, LongEvidence, LongLog, NoFile, Limit, Malformed, Prevented, Work, Ending, Refusal, refusal_ending, fault_ending, key_ending, promise_ending, key_plan, judged, audit_ending}
 use Rattle.nr_spec_program.specs.Recording.{answered_ending, recorded_ending}
+use Rattle.nr_spec_program.specs.Verifying.{verified_ending}
+use Rattle.nr_spec_verify.specs.Verified.{verified}
 
 -- ---- counts
 
@@ -44,6 +46,8 @@ EndOf (Keygen q) e = (key : Key) × (e ≡ key_ending key)
 EndOf (Check q) e = (promise : PromiseFile) × (e ≡ promise_ending promise)
 EndOf (Record q) e = (before after : LogFile) × ((skips : ℕ) × (e ≡ recorded_ending before after skips))
 EndOf (Answer q) e = (answer : AnswerFile) × (e ≡ answered_ending answer)
+EndOf (Verify q) e =
+    (bytes : List ℕ) × (claims : List Bool) × (verified q.root bytes ≡ Ok claims) × (e ≡ verified_ending claims)
 
 -- The words ask for a request, whose plan gave an ending of this status.
 pub record GaveEnding (request : Option Request) (result : Result Ending (Halt Refusal)) (status : ℕ) : Type 0 where
@@ -102,6 +106,7 @@ read_names (Keygen q) = q.seed ∷ []
 read_names (Check q) = q.promise ∷ []
 read_names (Record q) = q.promise ∷ q.key ∷ (q.files ++ q.log ∷ [])
 read_names (Answer q) = q.key ∷ q.log ∷ []
+read_names (Verify q) = q.evidence ∷ []
 
 -- the log of a request, which is synced before it is read
 abbrev pub log_names : Request → List (List ℕ)
@@ -110,6 +115,7 @@ log_names (Keygen q) = []
 log_names (Check q) = []
 log_names (Record q) = q.log ∷ []
 log_names (Answer q) = q.log ∷ []
+log_names (Verify q) = []
 
 -- the files that a request may write
 abbrev pub written_names : Request → List (List ℕ)
@@ -118,6 +124,7 @@ written_names (Keygen q) = q.key ∷ []
 written_names (Check q) = []
 written_names (Record q) = q.log ∷ []
 written_names (Answer q) = q.out ∷ []
+written_names (Verify q) = []
 
 -- the same of the words; those that aren't taken name no file
 abbrev pub read_in : Option Request → List (List ℕ)
@@ -157,6 +164,7 @@ names_before (Record q) LogInput = q.promise ∷ q.key ∷ q.files
 names_before (Record q) input = []
 names_before (Answer q) LogInput = q.key ∷ []
 names_before (Answer q) input = []
+names_before (Verify q) input = []
 
 -- the same with this one
 abbrev pub names_until : Request → Input → List (List ℕ)
@@ -173,6 +181,7 @@ names_until (Record q) LogInput = q.promise ∷ q.key ∷ (q.files ++ q.log ∷ 
 names_until (Record q) input = []
 names_until (Answer q) LogInput = q.key ∷ q.log ∷ []
 names_until (Answer q) input = q.key ∷ []
+names_until (Verify q) input = q.evidence ∷ []
 
 -- The files that were asked for where this refuses: none after the refused one.
 abbrev pub names_asked : Request → Refusal → List (List ℕ)

@@ -1,8 +1,6 @@
 -- What the program does with files: its inputs, refusals and endings, and the plans of `check`, `audit` and `keygen`.
-use Rattle.std.specs.Prelude.{ℕ, ◌+◌, nat_le, nat_lt, if◌then◌else◌, List, [], ◌∷◌, ◌++◌, length, Option, None, Some, Result, Ok, Err, codes}
-use Rattle.std.specs.List.{flat_map}
+use Rattle.std.specs.Prelude.{ℕ, nat_le, if◌then◌else◌, List, [], ◌∷◌, ◌++◌, Option, None, Some, Result, Ok, Err, codes}
 use Rattle.std.specs.Fmt.{decimal}
-use Rattle.byteorder.specs.Endian.{big_bytes}
 use Rattle.hex.specs.Hex.{encode_lower}
 use Rattle.nr_spec_log.specs.Authenticator.{Authenticator, auths_of}
 use Rattle.nr_spec_log.specs.Answer.{AnswerFile, answer_of}
@@ -14,16 +12,16 @@ use Rattle.nr_spec_steps.specs.Steps.{Spent}
 use Rattle.nr_spec_steps.specs.Telling.{most_raw}
 use Rattle.nr_spec_store.specs.LogFile.{most_log}
 use Rattle.nr_spec_report.specs.Claims.{Claim}
-use Rattle.nr_spec_evidence.specs.Evidence.{EvidenceFile, claim_bytes, evidence_file, evidence_front, most_evidence}
-use Rattle.nr_spec_evidence.specs.Evidence as evidence
+use Rattle.nr_spec_evidence.specs.Evidence.{EvidenceFile, most_evidence}
+use Rattle.nr_spec_saving.specs.Saving.{TooLong, save_evidence}
 use Rattle.nr_spec_outcome.specs.Report.{Report, claims_of}
 use Rattle.nr_spec_outcome.specs.Lines.{report_text}
 use Rattle.nr_spec_outcome.specs.Outcome.{Fact, Form, Network, Unsigned, Head, Short, Promise, outcome, promise_files}
 use Rattle.nr_spec_promises.specs.Files as files
 use Rattle.nr_spec_truth.specs.Truths.{meant}
 use Rattle.nr_spec_plans.specs.Disk.{Fault, ReadFault, WriteFault, Memory}
-use Rattle.nr_spec_plans.specs.Plans.{Plan, Done, Refuse, Room, act, want, Ask, Read, Cut, Write, Sync, save, ◌>>=◌}
-use Rattle.nr_spec_program.specs.Promises.{PromiseFile, promise_of, audited_by}
+use Rattle.nr_spec_plans.specs.Plans.{Plan, Done, Refuse, Room, act, refusing, want, Ask, Read, save, ◌>>=◌}
+use Rattle.nr_spec_texts.specs.Promises.{PromiseFile, promise_of, audited_by}
 use Rattle.nr_spec_commands.specs.Words.{AuditRequest, CheckRequest, KeygenRequest}
 
 -- ---- input files
@@ -35,6 +33,7 @@ pub data Input : Type 0 where
   SeedInput : Input
   KeyInput : Input
   LogInput : Input
+  EvidenceInput : Input
   -- the MRT files, numbered from 1
   MrtInput : (number : ℕ) → Input
 
@@ -46,6 +45,7 @@ input_name AuthsInput = codes "auths"
 input_name SeedInput = codes "seed"
 input_name KeyInput = codes "key"
 input_name LogInput = codes "log"
+input_name EvidenceInput = codes "evidence"
 input_name (MrtInput number) = codes "mrt" ++ decimal number
 
 -- its greatest size in bytes
@@ -56,6 +56,7 @@ input_limit AuthsInput = 1073741824
 input_limit SeedInput = 1048576
 input_limit KeyInput = 1048576
 input_limit LogInput = most_log
+input_limit EvidenceInput = most_evidence
 input_limit (MrtInput number) = 2147483647
 
 -- ---- refusals
@@ -84,7 +85,7 @@ pub data Refusal : Type 0 where
   Limit : (input : Input) (found : ℕ) → Refusal
   -- the file isn't in its grammar; the place of the first malformed field
   Malformed : (input : Input) (place : ℕ) → Refusal
-  -- what the files say refuses the audit
+  -- what the files say refuses the audit, or the evidence
   Refused : (fact : Fact) → Refusal
   -- what the files say refuses the recording, or the answer
   Prevented : (fact : LogFact) → Refusal
@@ -160,7 +161,8 @@ refusal_ending (Prevented fact) = record { status = 7; text = line (codes "refus
 refusal_ending (LongEvidence found) =
     record {
       status = 7;
-      text = line (codes "refused" ∷ codes "limit" ∷ codes "evidence" ∷ decimal found ∷ decimal most_evidence ∷ []);
+      text = line (codes "refused" ∷ codes "limit" ∷ input_name EvidenceInput
+          ∷ decimal found ∷ decimal (input_limit EvidenceInput) ∷ []);
     }
 
 -- 1 where something is claimed
@@ -205,36 +207,13 @@ evidence_of_report answer promise period report = record {
   claims = claims_of report;
 }
 
--- the pieces in which evidence is written, so that nobody holds the answer's bytes twice
-unfoldable pub evidence_parts : EvidenceFile → List (List ℕ)
-evidence_parts e =
-    evidence_front e.answer ∷ e.answer
-    ∷ (evidence.sized e.promise ++ (big_bytes 8 e.period.from ++ (big_bytes 8 e.period.to ++ big_bytes 4 (length e.claims))))
-    ∷ flat_map claim_bytes e.claims ∷ []
-
--- writes pieces one after another from a place on, and syncs
-unfoldable pub write_parts : (name : List ℕ) (at : ℕ) → List (List ℕ) → Work (Unit {0})
-write_parts name at [] = act (Sync name)
-write_parts name at (part ∷ others) = do
-  wrote ← act (Write name at part)
-  write_parts name (at + length part) others
-
--- cuts a file to nothing, writes these pieces and syncs it
-unfoldable pub save_parts : (name : List ℕ) → List (List ℕ) → Work (Unit {0})
-save_parts name parts = do
-  cut ← act (Cut name 0)
-  write_parts name 0 parts
-
--- evidence that isn't too long is written after all that is wanted of memory
-abbrev pub saving_evidence : (name : List ℕ) → EvidenceFile → Work (Unit {0})
-saving_evidence name e =
-    if nat_lt most_evidence (length (evidence_file e))
-    then Refuse (LongEvidence (length (evidence_file e))) else save_parts name (evidence_parts e)
+abbrev pub long_evidence : TooLong → Refusal
+long_evidence size = LongEvidence size.found
 
 -- the evidence, where it is asked for
 unfoldable pub evidence_plan : (name : Option (List ℕ)) → EvidenceFile → Work (Unit {0})
 evidence_plan None e = Done tt
-evidence_plan (Some name) e = Room (saving_evidence name e)
+evidence_plan (Some name) e = refusing long_evidence (save_evidence name e)
 
 abbrev pub usage_ending : Ending
 usage_ending = record { status = 2; text = line (codes "usage" ∷ []) }
