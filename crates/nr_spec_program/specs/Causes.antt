@@ -1,18 +1,19 @@
 -- What a run's status and ending say of the words, of the counts of faults and of the files.
 use Rattle.std.specs.Prelude.{◌≡◌, ◌≢◌, ◌⊎◌, ℕ, ◌≤◌, ◌-◌, Bool, false, true, if◌then◌else◌, List, [], ◌∷◌, ◌++◌, Option, None, Some, Result, Ok, Err, option_map, take}
 use Rattle.nr_spec_history.specs.KeyFiles.{Key, key_file}
-use Rattle.nr_spec_log.specs.Authenticator.{Authenticator}
-use Rattle.nr_spec_log.specs.Answer.{AnswerFile}
+use Rattle.nr_spec_log.specs.Authenticator.{Authenticator, auths_of}
+use Rattle.nr_spec_log.specs.Answer.{AnswerFile, answer_of}
 use Rattle.nr_spec_store.specs.LogFile.{LogFile}
 use Rattle.nr_spec_plans.specs.Disk.{Contents, Disk, Tape, Fault, Memory, Cuts, Writes, Syncs, more}
-use Rattle.nr_spec_plans.specs.Plans.{Action, Done, Ask, Read, Cut, Write, Sync, Halt, Refused, Faulted, Runs}
+use Rattle.nr_spec_plans.specs.Plans.{Action, Done, Ask, Read, Cut, Write, Sync, Halt, Refused, Faulted, Room, Runs, ◌>>=◌}
 use Rattle.nr_spec_plans.specs.Laws.{IsAmong, IsRead, Unchanged, fault_in, outcome, reads_after, writes_after}
 use Rattle.nr_spec_plans.specs.Steps.{OnlyBy}
 use Rattle.nr_spec_outcome.specs.Report.{Report}
-use Rattle.nr_spec_commands.specs.Words.{named, Request, KeygenRequest, Audit, Keygen, Check, Record, Answer, Verify}
+use Rattle.nr_spec_saving.specs.Saving.{PartsSaved, evidence_parts}
+use Rattle.nr_spec_commands.specs.Words.{named, Request, AuditRequest, KeygenRequest, Audit, Keygen, Check, Record, Answer, Verify}
 use Rattle.nr_spec_texts.specs.Promises.{PromiseFile}
 use Rattle.nr_spec_program.specs.Command as command
-use Rattle.nr_spec_program.specs.Command.{Input, PromiseInput, AnswerInput, AuthsInput, KeyInput, LogInput, MrtInput, LogFact, KeySpent, LongEvidence, LongLog, NoFile, Limit, Malformed, Prevented, Work, Ending, Refusal, refusal_ending, fault_ending, key_ending, promise_ending, key_plan, judged, audit_ending}
+use Rattle.nr_spec_program.specs.Command.{Input, PromiseInput, AnswerInput, AuthsInput, KeyInput, LogInput, MrtInput, LogFact, KeySpent, LongEvidence, LongLog, NoFile, Limit, Malformed, Prevented, Work, Ending, Refusal, refusal_ending, fault_ending, key_ending, promise_ending, promise_plan, key_plan, load, well_formed, judged, audit_ending, evidence_of_report}
 use Rattle.nr_spec_program.specs.Recording.{answered_ending, recorded_ending}
 use Rattle.nr_spec_program.specs.Verifying.{verified_ending}
 use Rattle.nr_spec_verify.specs.Verified.{verified}
@@ -299,3 +300,32 @@ pub record SavesKey (q : KeygenRequest) (old new : Disk) : Type 0 where
   pub cuts : Cuts q.key 0 read cut (Ok tt)
   pub writes : Writes q.key 0 (key_file key) cut wrote (Ok tt)
   pub syncs : Syncs q.key wrote new (Ok tt)
+
+-- what an audit has of its files before it writes: what the promise file says, the bytes of the answer, and the report
+-- on that answer
+pub record Reported : Type 0 where
+  pub promise : PromiseFile
+  pub answer : List ℕ
+  pub report : Report
+
+-- the first part of `audit`, before anything is written
+unfoldable pub reported_plan : AuditRequest → Work Reported
+reported_plan q = do
+  promise ← promise_plan q.promise
+  answer_bytes ← load AnswerInput q.answer
+  answer ← well_formed AnswerInput (answer_of answer_bytes)
+  auths_bytes ← load AuthsInput q.auths
+  auths ← well_formed AuthsInput (auths_of auths_bytes)
+  report ← Room (judged q.root promise answer q.period auths)
+  Done (record { promise = promise; answer = answer_bytes; report = report })
+
+-- A report was got from the three files, and after that the evidence file was cut to nothing, the pieces of the
+-- report's evidence were written one behind another, and the file was synced, and each of these went well. What is then
+-- offered to the sink is the text of the report.
+pub record SavesEvidence (q : AuditRequest) (name : List ℕ) (e : Ending) (old new : Disk) : Type 0 where
+  pub reported : Reported
+  pub read : Disk
+  pub gets : Runs (reported_plan q) old read (Ok reported)
+  pub saves : PartsSaved name
+      (evidence_parts (evidence_of_report reported.answer reported.promise q.period reported.report)) read new
+  pub offers : e ≡ audit_ending reported.promise reported.report
