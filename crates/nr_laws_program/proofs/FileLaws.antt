@@ -2,10 +2,10 @@
 use Rattle.std.proofs.Common.{◌≡◌, ◌≢◌, ℕ, ◌+◌, ◌≤◌, length, List, [], ◌∷◌, ◌++◌, Option, Some, None, Result, Ok, Err, refl, sym, ap, subst, ◌∙◌, inl, inr, ◌⊎◌, ⊎_elim, arith}
 use Rattle.std.specs.Prelude.{nat_lt, option_map}
 use Rattle.std.proofs.lemmas.Bool.{cases_Bool}
-use Rattle.nr_spec_plans.specs.Order.{Refuses}
 use Rattle.nr_spec_log.specs.Authenticator.{auths_of}
 use Rattle.nr_spec_log.specs.Answer.{answer_of}
 use Rattle.nr_spec_evidence.specs.Evidence.{EvidenceFile, evidence_file, most_evidence}
+use Rattle.nr_spec_saving.specs.Saving.{TooLong, evidence_parts, save_evidence, save_parts}
 use Rattle.nr_spec_plans.specs.Disk as disk
 use Rattle.nr_spec_plans.specs.Plans.{Done, Room, Halt, want, Refused, Faulted, Runs, followed_by, ◌>>=◌, save, Action, Ask, Read, Cut, Write, Sync, Plan}
 use Rattle.nr_spec_plans.specs.Laws.{Each, IsRead, Unchanged, CountsOne, fault_in, outcome, Spares, Kept, Saved, Gives, IsAmong, IsLeftBy, reads_after, writes_after}
@@ -14,16 +14,16 @@ use Rattle.nr_spec_plans.proofs.StepLaws.{done_by, done_only, each_as}
 use Rattle.nr_spec_plans.proofs.PlanLaws.{writes_nothing, counts_one, ends_so, taken_apart, saved, gives_outcome, spares_others}
 use Rattle.nr_spec_plans.proofs.SaveLaws.{save_leaves, reads_alone}
 use Rattle.nr_spec_history.specs.KeyFiles.{Key, key_file}
-use Rattle.nr_spec_commands.specs.Words.{named, AuditRequest, AnswerRequest, KeygenRequest, RecordRequest, Request, Answer, Audit, Check, Keygen, Record, request_in}
-use Rattle.nr_spec_program.specs.Command.{judged, audit_plan, evidence_parts, evidence_plan, save_parts, write_parts, Work, Ending, Refusal, refusal_ending, fault_ending, key_plan, keygen_plan, key_ending}
+use Rattle.nr_spec_commands.specs.Words.{named, AuditRequest, AnswerRequest, KeygenRequest, RecordRequest, Request, Answer, Audit, Check, Keygen, Record, Verify, request_in}
+use Rattle.nr_spec_program.specs.Command.{judged, audit_plan, evidence_plan, long_evidence, Work, Ending, Refusal, refusal_ending, fault_ending, key_plan, keygen_plan, key_ending}
 use Rattle.nr_spec_program.specs.Table.{plan_of, plan_in, plan_for}
 use Rattle.nr_spec_program.specs.Recording.{answered_ending, recorded_ending}
 use Rattle.nr_spec_program.specs.Running.{RunsTo, Concludes, Answers}
 use Rattle.nr_spec_program.specs.Causes.{Answered, EndOf, EndsAs, EndsBy, IsReadOrSync, LeavesContents, LeavesFiles, NoneRose, NotMetLate, OnlyTheSinkFails, SavesKey, Touches, WroteNothing, ended, log_in, log_names, read_in, read_names, written_in, written_names}
 use Rattle.nr_laws_program.proofs.Names.{among_either, among_first, among_last}
-use Rattle.nr_laws_program.proofs.Phases.{IsWriting, phased_then, IsLooking, IsPhased, SparesContents, WroteBy, looked_or_wrote, only_holds, only_unchanged, only_writes, phased_after, phased_each, phased_gives, spares_contents}
+use Rattle.nr_laws_program.proofs.Phases.{IsWriting, phased_refusing, phased_then, phased_writing, IsLooking, IsPhased, SparesContents, WroteBy, looked_or_wrote, none_refuses, only_holds, only_unchanged, only_writes, phased_after, phased_each, phased_gives, spares_contents}
 use Rattle.nr_laws_program.proofs.LogKinds.{KindLoads}
-use Rattle.nr_laws_program.proofs.PlanKinds.{KindReads, audit_each, check_each, concluded_each, ends_low, neither, key_each, keygen_each, load_each, parts_each, promise_each, well_formed_each, refusal_status, request_ends}
+use Rattle.nr_laws_program.proofs.PlanKinds.{KindReads, audit_each, check_each, concluded_each, ends_low, neither, key_each, keygen_each, load_each, parts_each, parts_refuse, promise_each, verify_each, well_formed_each, refusal_status, request_ends}
 use Rattle.nr_laws_program.proofs.RecordPlans.{IsLate, answer_each, answer_phased, record_each, record_phased}
 use Rattle.nr_laws_program.proofs.StatusLaws.{ending_says, sink_alone, still_writes, answered_so, own_status}
 
@@ -52,6 +52,7 @@ touches_named (Record q) =
     (λ name is. touches (Record q) name (inr (inr (among_first name q.files (q.log ∷ []) is))))
     (record { ask = inr (inr (among_last q.log q.files)); sync = inl refl; read = λ size. inr (inr (among_last q.log q.files)) })
     (record { write = λ at bytes. inl refl; sync = inl refl })
+touches_named (Verify q) = verify_each (TouchesOf (Verify q)) q (touches (Verify q) q.evidence (inl refl))
 touches_named (Answer q) =
     answer_each (TouchesOf (Answer q)) q (touches (Answer q) q.key (inl refl))
     (record { ask = inr (inl refl); sync = inl refl; read = λ size. inr (inl refl) })
@@ -119,20 +120,20 @@ key_phased : (kind : Action → Type 0) (late : Refusal → Type 0) (q : KeygenR
 unfolding plan_of keygen_plan save followed_by
 key_phased kind late q seed = phased_after kind late (key_plan q) _ (key_each kind q seed) (λ key. inr (tt, λ a. ((tt, λ b. (tt, λ c. tt)), λ b c. tt)))
 
-parts_refuse : (late : Refusal → Type 0) (name : List ℕ) (at : ℕ) (parts : List (List ℕ)) → Refuses late (write_parts name at parts)
-unfolding write_parts followed_by
-parts_refuse late name at [] = λ a. tt
-parts_refuse late name at (part ∷ others) = λ a. parts_refuse late name (at + length part) others
-
-saved_phased : (kind : Action → Type 0) (late : Refusal → Type 0) (name : List ℕ) (parts : List (List ℕ)) → IsPhased kind late (save_parts name parts)
-unfolding save_parts followed_by
-saved_phased kind late name parts = inr (tt, λ a. (parts_each IsWriting name (record { cut = tt; write = λ at bytes. tt; sync = tt }) 0 parts, parts_refuse late name 0 parts))
+saved_phased : (kind : Action → Type 0) (late : TooLong → Type 0) (name : List ℕ) (e : EvidenceFile) → IsPhased kind late (save_evidence name e)
+unfolding save_evidence
+saved_phased kind late name e =
+    elim (cases_Bool (nat_lt most_evidence (length (evidence_file e)))) [
+      | inl by ↦ rw by tt
+      | inr by ↦ rw by (phased_writing kind late (save_parts name (evidence_parts e)) (parts_each TooLong IsWriting name (record { cut = tt; write = λ at bytes. tt; sync = tt }) e)
+          (none_refuses late (save_parts name (evidence_parts e)) (parts_refuse TooLong name (evidence_parts e))))
+    ]
 
 -- evidence that is too long is refused before anything is written
 evidence_phased : (kind : Action → Type 0) (late : Refusal → Type 0) (name : Option (List ℕ)) (e : EvidenceFile) → IsPhased kind late (evidence_plan name e)
 unfolding evidence_plan
 evidence_phased kind late None e = tt
-evidence_phased kind late (Some n) e = elim (cases_Bool (nat_lt most_evidence (length (evidence_file e)))) [ inl by ↦ rw by tt | inr by ↦ rw by (saved_phased kind late n (evidence_parts e)) ]
+evidence_phased kind late (Some n) e = phased_refusing kind late long_evidence (save_evidence n e) (saved_phased kind (λ refusal. late (long_evidence refusal)) n e)
 
 audit_phased : (kind : Action → Type 0) (late : Refusal → Type 0) (q : AuditRequest) → KindReads kind q.promise → KindReads kind q.answer → KindReads kind q.auths → IsPhased kind late (plan_of (Audit q))
 unfolding plan_of audit_plan
@@ -150,6 +151,7 @@ pub phased_request : (request : Request) → IsPhased (LooksIn request) IsLate (
 phased_request (Audit q) = audit_phased (LooksIn (Audit q)) IsLate q (looks [] q.promise) (looks [] q.answer) (looks [] q.auths)
 phased_request (Keygen q) = key_phased (LooksIn (Keygen q)) IsLate q (looks [] q.seed)
 phased_request (Check q) = phased_each (LooksIn (Check q)) IsLate (plan_of (Check q)) (check_each (LooksIn (Check q)) q (looks [] q.promise))
+phased_request (Verify q) = phased_each (LooksIn (Verify q)) IsLate (plan_of (Verify q)) (verify_each (LooksIn (Verify q)) q (looks [] q.evidence))
 phased_request (Record q) = record_phased (LooksIn (Record q)) q (looks (q.log ∷ []) q.promise) (looks (q.log ∷ []) q.key) (λ name is. looks (q.log ∷ []) name) (loads_log q.log)
 phased_request (Answer q) = answer_phased (LooksIn (Answer q)) q (looks (q.log ∷ []) q.key) (loads_log q.log)
 
@@ -394,6 +396,7 @@ refused_leave (Some (Audit q)) old new result e unsynced runs c none =
 refused_leave (Some (Keygen q)) old new result e unsynced runs c none =
     leaves_by old new (looked_alone (Keygen q) IsRead (λ refusal. ⊥) old new result e (λ refusal is late. late) (key_phased IsRead (λ refusal. ⊥) q (record { ask = tt; read = λ size. tt })) runs c none)
 refused_leave (Some (Check q)) old new result e unsynced runs c none = reading_leaves (Some (Check q)) old new result refl refl runs
+refused_leave (Some (Verify q)) old new result e unsynced runs c none = reading_leaves (Some (Verify q)) old new result refl refl runs
 refused_leave (Some (Record q)) old new result e unsynced runs c none = absurd cc
 refused_leave (Some (Answer q)) old new result e unsynced runs c none = absurd cc
 
@@ -430,6 +433,7 @@ contents_leave : (request : Option Request) (old new : disk.Disk) (result : Resu
 contents_leave None old new result e early runs c none = reading_left None old new result refl refl runs
 contents_leave (Some (Audit q)) old new result e early runs c none = contents_left [] old new (looked_alone (Audit q) (LooksIn (Audit q)) IsLate old new result e (not_late result early) (phased_request (Audit q)) runs c none)
 contents_leave (Some (Check q)) old new result e early runs c none = reading_left (Some (Check q)) old new result refl refl runs
+contents_leave (Some (Verify q)) old new result e early runs c none = reading_left (Some (Verify q)) old new result refl refl runs
 contents_leave (Some (Keygen q)) old new result e early runs c none = contents_left [] old new (looked_alone (Keygen q) (LooksIn (Keygen q)) IsLate old new result e (not_late result early) (phased_request (Keygen q)) runs c none)
 contents_leave (Some (Record q)) old new result e early runs c none = contents_left (q.log ∷ []) old new (looked_alone (Record q) (LooksIn (Record q)) IsLate old new result e (not_late result early) (phased_request (Record q)) runs c none)
 contents_leave (Some (Answer q)) old new result e early runs c none = contents_left (q.log ∷ []) old new (looked_alone (Answer q) (LooksIn (Answer q)) IsLate old new result e (not_late result early) (phased_request (Answer q)) runs c none)

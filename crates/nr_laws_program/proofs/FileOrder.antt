@@ -1,23 +1,28 @@
 -- What was done before a refusal.
 use Rattle.std.proofs.Common.{ℕ, ◌+◌, length, [], ◌∷◌, List, Option, Some, None, Result, Ok, Err, refl, inl, inr}
-use Rattle.std.specs.Prelude.{nat_le, nat_lt}
+use Rattle.std.specs.Prelude.{Bool, nat_le, nat_lt}
 use Rattle.std.proofs.lemmas.Bool.{cases_Bool}
-use Rattle.nr_spec_plans.specs.Plans.{Room, followed_by, ◌>>=◌, want, save, Action, Ask, Read}
+use Rattle.nr_spec_plans.specs.Plans.{Done, Room, followed_by, ◌>>=◌, want, save, Action, Ask, Read}
 use Rattle.nr_spec_plans.specs.Order.{Refuses, Allows}
 use Rattle.nr_spec_plans.proofs.OrderLaws.{refuses_followed, allows_followed}
 use Rattle.nr_spec_log.specs.Authenticator.{auths_of}
 use Rattle.nr_spec_log.specs.Answer.{AnswerFile, answer_of}
 use Rattle.nr_spec_history.specs.KeyFiles.{seed_of}
 use Rattle.nr_spec_evidence.specs.Evidence.{EvidenceFile, evidence_file, most_evidence}
+use Rattle.nr_spec_saving.specs.Saving.{TooLong, evidence_parts, save_evidence, save_parts}
+use Rattle.nr_spec_verify.specs.Verified as evidence
+use Rattle.nr_spec_verify.specs.Verified.{verified}
 use Rattle.nr_spec_outcome.specs.Report.{Report}
 use Rattle.nr_spec_outcome.specs.Outcome.{Fact}
-use Rattle.nr_spec_commands.specs.Words.{AuditRequest, CheckRequest, KeygenRequest, Audit, Check, Keygen}
+use Rattle.nr_spec_commands.specs.Words.{AuditRequest, CheckRequest, KeygenRequest, VerifyRequest, Audit, Check, Keygen, Verify}
 use Rattle.nr_spec_texts.specs.Promises.{PromiseFile, promise_of}
-use Rattle.nr_spec_program.specs.Command.{Input, PromiseInput, AnswerInput, AuthsInput, SeedInput, Work, Ending, Refusal, NoFile, Limit, Malformed, load, sized, well_formed, LongEvidence, evidence_parts, evidence_plan, save_parts, write_parts, concluded, judged, promise_plan, check_plan, audit_plan, key_plan, keygen_plan, input_limit}
+use Rattle.nr_spec_program.specs.Command.{Input, PromiseInput, AnswerInput, AuthsInput, SeedInput, EvidenceInput, Work, Ending, Refusal, NoFile, Limit, Malformed, load, sized, well_formed, LongEvidence, evidence_plan, long_evidence, concluded, judged, promise_plan, check_plan, audit_plan, key_plan, keygen_plan, input_limit}
+use Rattle.nr_spec_program.specs.Verifying.{checked, verified_ending, verify_plan}
 use Rattle.nr_spec_program.specs.Table.{plan_of}
 use Rattle.nr_spec_program.specs.Command as command
 use Rattle.nr_spec_program.specs.Causes.{Permits}
-use Rattle.nr_laws_program.proofs.PlanKinds.{after_report, concluded_each, evidence_each, key_each, load_each, promise_each, sized_each, well_formed_each}
+use Rattle.nr_laws_program.proofs.Phases.{allows_refusing, none_allows, none_refuses, refuses_refusing}
+use Rattle.nr_laws_program.proofs.PlanKinds.{after_report, checked_each, concluded_each, evidence_each, key_each, load_each, parts_refuse, promise_each, sized_each, well_formed_each}
 
 -- ---- the refusals of each part of a plan
 
@@ -37,19 +42,23 @@ concluded_refuses : (P : Refusal → Type 0) (found : Result Report Fact) → ((
 concluded_refuses P (Ok report) fact_has = tt
 concluded_refuses P (Err fact) fact_has = fact_has fact
 
-parts_refuses : (P : Refusal → Type 0) (name : List ℕ) (at : ℕ) (parts : List (List ℕ)) → Refuses P (write_parts name at parts)
-unfolding write_parts followed_by
-parts_refuses P name at [] = λ a. tt
-parts_refuses P name at (part ∷ others) = λ a. parts_refuses P name (at + length part) others
-
-saved_refuses : (P : Refusal → Type 0) (name : List ℕ) (parts : List (List ℕ)) → Refuses P (save_parts name parts)
-unfolding save_parts followed_by
-saved_refuses P name parts = λ a. parts_refuses P name 0 parts
+saved_refuses : (P : TooLong → Type 0) (name : List ℕ) (e : EvidenceFile) → ((found : ℕ) → P (record { found = found })) → Refuses P (save_evidence name e)
+unfolding save_evidence
+saved_refuses P name e long =
+    elim (cases_Bool (nat_lt most_evidence (length (evidence_file e)))) [
+      | inl by ↦ rw by (long (length (evidence_file e)))
+      | inr by ↦ rw by (none_refuses P (save_parts name (evidence_parts e)) (parts_refuse TooLong name (evidence_parts e)))
+    ]
 
 evidence_refuses : (P : Refusal → Type 0) (name : Option (List ℕ)) (e : EvidenceFile) → ((found : ℕ) → P (LongEvidence found)) → Refuses P (evidence_plan name e)
 unfolding evidence_plan
 evidence_refuses P None e long = tt
-evidence_refuses P (Some n) e long = elim (cases_Bool (nat_lt most_evidence (length (evidence_file e)))) [ inl by ↦ rw by (long _) | inr by ↦ rw by (saved_refuses P n (evidence_parts e)) ]
+evidence_refuses P (Some n) e long = refuses_refusing P long_evidence (save_evidence n e) (saved_refuses (λ refusal. P (long_evidence refusal)) n e long)
+
+checked_refuses : (P : Refusal → Type 0) (found : Result (List Bool) evidence.Refusal) → ((place : ℕ) → P (Malformed EvidenceInput place)) → ((fact : Fact) → P (command.Refused fact)) → Refuses P (checked found)
+checked_refuses P (Ok claims) malformed fact_has = tt
+checked_refuses P (Err (evidence.Malformed place)) malformed fact_has = malformed place
+checked_refuses P (Err (evidence.Refused fact)) malformed fact_has = fact_has fact
 
 -- ---- each part of a plan by itself
 
@@ -74,19 +83,23 @@ concluded_allows allowed (Ok report) = tt
 concluded_allows allowed (Err fact) = tt
 
 -- nothing refuses after the evidence is cut
-parts_allow : (allowed : Refusal → Action → Type 0) (name : List ℕ) (at : ℕ) (parts : List (List ℕ)) → Allows allowed (write_parts name at parts)
-unfolding write_parts followed_by
-parts_allow allowed name at [] = λ a. (tt, tt)
-parts_allow allowed name at (part ∷ others) = λ a. (parts_refuses _ name (at + length part) others, parts_allow allowed name (at + length part) others)
-
-saved_allows : (allowed : Refusal → Action → Type 0) (name : List ℕ) (parts : List (List ℕ)) → Allows allowed (save_parts name parts)
-unfolding save_parts followed_by
-saved_allows allowed name parts = λ a. (parts_refuses _ name 0 parts, parts_allow allowed name 0 parts)
+saved_allows : (allowed : TooLong → Action → Type 0) (name : List ℕ) (e : EvidenceFile) → Allows allowed (save_evidence name e)
+unfolding save_evidence
+saved_allows allowed name e =
+    elim (cases_Bool (nat_lt most_evidence (length (evidence_file e)))) [
+      | inl by ↦ rw by tt
+      | inr by ↦ rw by (none_allows allowed (save_parts name (evidence_parts e)) (parts_refuse TooLong name (evidence_parts e)))
+    ]
 
 evidence_allows : (allowed : Refusal → Action → Type 0) (name : Option (List ℕ)) (e : EvidenceFile) → Allows allowed (evidence_plan name e)
 unfolding evidence_plan
 evidence_allows allowed None e = tt
-evidence_allows allowed (Some n) e = elim (cases_Bool (nat_lt most_evidence (length (evidence_file e)))) [ inl by ↦ rw by tt | inr by ↦ rw by (saved_allows allowed n (evidence_parts e)) ]
+evidence_allows allowed (Some n) e = allows_refusing allowed long_evidence (save_evidence n e) (saved_allows (λ refusal action. allowed (long_evidence refusal) action) n e)
+
+checked_allows : (allowed : Refusal → Action → Type 0) (found : Result (List Bool) evidence.Refusal) → Allows allowed (checked found)
+checked_allows allowed (Ok claims) = tt
+checked_allows allowed (Err (evidence.Malformed place)) = tt
+checked_allows allowed (Err (evidence.Refused fact)) = tt
 
 pub promise_allows : (allowed : Refusal → Action → Type 0) (name : List ℕ) → allowed (NoFile PromiseInput) (Ask name) → ((found : ℕ) → allowed (Limit PromiseInput found) (Ask name))
     → ((place : ℕ) → allowed (Malformed PromiseInput place) (Ask name)) → ((size place : ℕ) → allowed (Malformed PromiseInput place) (Read name size)) → Allows allowed (promise_plan name)
@@ -189,6 +202,21 @@ check_allows q =
       read = λ size promise. refuses_followed (λ r. Permits (Check q) r (Read q.promise size)) want _ tt (λ room. tt);
     }))
     (λ promise. allows_followed (Permits (Check q)) want _ tt tt (λ room. tt))
+
+pub verify_allows : (q : VerifyRequest) → Allows (Permits (Verify q)) (plan_of (Verify q))
+unfolding plan_of verify_plan
+verify_allows q =
+    allows_followed (Permits (Verify q)) _ _ (load_allows (Permits (Verify q)) EvidenceInput q.evidence (inl refl) (λ found. inl refl))
+    (load_each _ EvidenceInput q.evidence (record {
+      ask = λ bytes. on_claims bytes (λ r. Permits (Verify q) r (Ask q.evidence)) (λ place. inl refl) (λ fact. inl refl);
+      read = λ size bytes. on_claims bytes (λ r. Permits (Verify q) r (Read q.evidence size)) (λ place. inl refl) (λ fact. inl refl);
+    }))
+    (λ bytes. allows_followed (Permits (Verify q)) (Room (checked (verified q.root bytes))) _ (checked_allows (Permits (Verify q)) _) (checked_each _ _)
+    (λ claims. allows_followed (Permits (Verify q)) want _ tt tt (λ room. tt)))
+  where
+    on_claims : (bytes : List ℕ) (P : Refusal → Type 0) → ((place : ℕ) → P (Malformed EvidenceInput place)) → ((fact : Fact) → P (command.Refused fact))
+        → Refuses P (Room (checked (verified q.root bytes)) >>= λ claims. want >>= λ room. Done (verified_ending claims))
+    on_claims bytes P malformed fact_has = refuses_followed P (Room (checked (verified q.root bytes))) _ (checked_refuses P _ malformed fact_has) (λ claims. refuses_followed P want _ tt (λ room. tt))
 
 key_allows : (q : KeygenRequest) → Allows (Permits (Keygen q)) (key_plan q)
 unfolding key_plan
