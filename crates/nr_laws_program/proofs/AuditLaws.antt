@@ -1,5 +1,5 @@
 -- What an audit saves of its report.
-use Rattle.std.proofs.Common.{◌≡◌, ℕ, ◌≤◌, List, Option, Some, Result, Ok, Err, refl, sym, ap, subst, inl, inr, ◌⊎◌, ⊎_elim, arith}
+use Rattle.std.proofs.Common.{◌≡◌, ℕ, ◌≤◌, List, Option, Some, Result, Ok, Err, refl, sym, subst, inl, inr, ◌⊎◌, ⊎_elim, arith}
 use Rattle.nr_spec_plans.specs.Disk as disk
 use Rattle.nr_spec_plans.specs.Plans.{Done, Room, Halt, Refused, Faulted, Runs, followed_by, halting, want, ◌>>=◌}
 use Rattle.nr_spec_plans.proofs.PlanLaws.{taken_apart}
@@ -83,7 +83,7 @@ audit_saves q name old new ending is runs =
     by_kept : (r : Reported) (mid : disk.Disk) → Runs (reported_plan q) old mid (Ok r) → Runs (kept q r) mid new (Ok ending) → SavesEvidence q name ending old new
     by_kept r mid gets keeps =
         let k = kept_well name (evidence_for q r) (audit_ending r.promise r.report) ending mid new
-            (subst (λ (given : Option (List ℕ)). Runs (evidence_plan given (evidence_for q r) >>= λ saved. Done (audit_ending r.promise r.report)) mid new (Ok ending)) is keeps) in
+        (subst (λ (given : Option (List ℕ)). Runs (evidence_plan given (evidence_for q r) >>= λ saved. Done (audit_ending r.promise r.report)) mid new (Ok ending)) is keeps) in
         record { reported = r; read = mid; gets = gets; saves = k.saves; offers = k.is }
 
 audit_saves_in : (q : AuditRequest) (name : List ℕ) (old new : disk.Disk) (ending : Ending) → q.evidence ≡ Some name → Runs (Room (plan_of (Audit q))) old new (Ok ending) → SavesEvidence q name ending old new

@@ -1,5 +1,5 @@
 -- What a run leaves of the files, and what the files make of its ending.
-use Rattle.std.proofs.Common.{◌≡◌, ◌≢◌, ℕ, ◌+◌, ◌≤◌, length, List, [], ◌∷◌, ◌++◌, Option, Some, None, Result, Ok, Err, refl, sym, ap, subst, ◌∙◌, inl, inr, ◌⊎◌, ⊎_elim, arith}
+use Rattle.std.proofs.Common.{◌≡◌, ◌≢◌, ℕ, ◌≤◌, length, List, [], ◌∷◌, ◌++◌, Option, Some, None, Result, Ok, Err, refl, sym, ap, subst, ◌∙◌, inl, inr, ◌⊎◌, ⊎_elim, arith}
 use Rattle.std.specs.Prelude.{nat_lt, option_map}
 use Rattle.std.proofs.lemmas.Bool.{cases_Bool}
 use Rattle.nr_spec_log.specs.Authenticator.{auths_of}
@@ -14,10 +14,9 @@ use Rattle.nr_spec_plans.proofs.StepLaws.{done_by, done_only, each_as}
 use Rattle.nr_spec_plans.proofs.PlanLaws.{writes_nothing, counts_one, ends_so, taken_apart, saved, gives_outcome, spares_others}
 use Rattle.nr_spec_plans.proofs.SaveLaws.{save_leaves, reads_alone}
 use Rattle.nr_spec_history.specs.KeyFiles.{Key, key_file}
-use Rattle.nr_spec_commands.specs.Words.{named, AuditRequest, AnswerRequest, KeygenRequest, RecordRequest, Request, Answer, Audit, Check, Keygen, Record, Verify, request_in}
+use Rattle.nr_spec_commands.specs.Words.{named, AuditRequest, KeygenRequest, Request, Answer, Audit, Check, Keygen, Record, Verify, request_in}
 use Rattle.nr_spec_program.specs.Command.{judged, audit_plan, evidence_plan, long_evidence, Work, Ending, Refusal, refusal_ending, fault_ending, key_plan, keygen_plan, key_ending}
 use Rattle.nr_spec_program.specs.Table.{plan_of, plan_in, plan_for}
-use Rattle.nr_spec_program.specs.Recording.{answered_ending, recorded_ending}
 use Rattle.nr_spec_program.specs.Running.{RunsTo, Concludes, Answers}
 use Rattle.nr_spec_program.specs.Causes.{Answered, EndOf, EndsAs, EndsBy, IsReadOrSync, LeavesContents, LeavesFiles, NoneRose, NotMetLate, OnlyTheSinkFails, SavesKey, Touches, WroteNothing, ended, log_in, log_names, read_in, read_names, written_in, written_names}
 use Rattle.nr_laws_program.proofs.Names.{among_either, among_first, among_last}
