@@ -166,9 +166,9 @@ text_small file t h =
 pub own_numbers : (text : List ℕ) (promise : PromiseFile) → promise_of text ≡ Ok promise → IsOwn (numbers_in promise)
 unfolding promise_of
 own_numbers text promise h =
-    let a = bind_ok (file_of text) (λ file. typed_text file >>= λ says. Ok (record { digest = sha256 text; file = file; says = says })) promise h in
-    let b = bind_ok (typed_text a.0) (λ says. Ok (record { digest = sha256 text; file = a.0; says = says })) promise a.2 in
-    let made : PromiseFile = record { digest = sha256 text; file = a.0; says = b.0 } in
+    let a = bind_ok (file_of text) (λ file. typed_text file >>= λ says. Ok (record { text = text; digest = sha256 text; file = file; says = says })) promise h in
+    let b = bind_ok (typed_text a.0) (λ says. Ok (record { text = text; digest = sha256 text; file = a.0; says = says })) promise a.2 in
+    let made : PromiseFile = record { text = text; digest = sha256 text; file = a.0; says = b.0 } in
     let e : made ≡ promise = ok_same made promise b.2 in
     let small = text_small a.0 b.0 b.1 in
     subst (λ (p : PromiseFile). IsOwn (numbers_in p)) e (record { digest = length-sha256 text; count = small.neighbours; delay = small.commit })
