@@ -15,12 +15,14 @@ use Rattle.nr_rule_types.specs.declared.fault.TypeError.{TypeError}
 use Rattle.nr_rule_types.specs.declared.fault.TypeError.TheVariants as typing
 use Rattle.nr_answer.specs.declared.writing.WriteError.{WriteError}
 use Rattle.nr_answer.specs.declared.writing.WriteError.TheVariants as unwritten
+use Rattle.nr_evidence_file.specs.declared.writing.WriteError as evidence
+use Rattle.nr_evidence_file.specs.declared.writing.WriteError.TheVariants as unevidenced
 use Rattle.nr_store.specs.declared.fault.LoadError.{LoadError}
 use Rattle.nr_store.specs.declared.fault.LoadError.TheVariants as load
 use Rattle.nr_store.specs.declared.fault.AppendError.{AppendError}
 use Rattle.nr_store.specs.declared.fault.AppendError.TheVariants as append
 use Rattle.nr_spec_program.specs.Command as command
-use Rattle.nr_spec_program.specs.Promises as promises
+use Rattle.nr_spec_texts.specs.Promises as promises
 use Rattle.nr_command_parts.specs.declared.promise_file.PromiseFile as declared_promise
 use Rattle.nr_command_parts.specs.declared.input.Input.{Input}
 use Rattle.nr_command_parts.specs.declared.input.Input.TheVariants as input
@@ -65,6 +67,7 @@ refusal_of (refusal.Limit i found) = command.Limit (input_of i) found
 refusal_of (refusal.Malformed i place) = command.Malformed (input_of i) place.0
 refusal_of (refusal.Refused f) = command.Refused (fact_of f)
 refusal_of (refusal.Prevented f) = command.Prevented (log_fact_of f)
+refusal_of (refusal.LongEvidence found) = command.LongEvidence found
 
 abbrev pub seed_bytes : Seed → List ℕ
 seed_bytes seed = seed.0
@@ -103,8 +106,13 @@ abbrev pub unanswered_of : WriteError → Stop
 unanswered_of (unwritten.TooLong found) = stop.Refused (refusal.Prevented (log_fact.LongAnswer found))
 unanswered_of unwritten.Memory = stop.Memory
 
+-- why evidence that isn't written ends a command
+abbrev pub unproved_of : evidence.WriteError → Stop
+unproved_of (unevidenced.TooLong found) = stop.Refused (refusal.LongEvidence found)
+unproved_of unevidenced.Memory = stop.Memory
+
 abbrev pub promise_file_of : declared_promise.PromiseFile → promises.PromiseFile
-promise_file_of p = record { digest = p.digest.0; file = p.file; says = p.says }
+promise_file_of p = record { text = p.text.items; digest = p.digest.0; file = p.file; says = p.says }
 
 -- why a file that isn't written in whole ends a command
 abbrev pub halt_of : WriteFault → Stop

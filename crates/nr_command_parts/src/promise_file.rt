@@ -1,5 +1,6 @@
 //! Promise files.
 
+ghost use Rattle.std.specs.Prelude.{◌≤◌, length};
 ghost use Rattle.std.specs.List.{All};
 ghost use Rattle.std.proofs.Props.{props};
 ghost use Rattle.nr_rule_syntax.specs.Nesting.{IsNested};
@@ -9,12 +10,14 @@ use nr_chain::Digest;
 use nr_rule_syntax::File;
 use nr_rule_types::Typed;
 
-/// A promise file: the SHA-256 of its text, the tree of that, whose formulas nest at most 64 levels, and what it says
+/// A promise file: its text, the SHA-256 of that, the tree of that, whose formulas nest at most 64 levels, and what it says
 /// with its names resolved.
 #[derive(Drop)]
 pub struct PromiseFile {
+    pub text: Vec<u8>,
     pub digest: Digest,
     pub file: File,
     pub says: Typed,
+    ghost fits: { length text.items ≤ 1048576 },
     ghost nests: { All IsNested file.decls } by { Prim.hlevel (nested_is_one, props) },
 }

@@ -6,7 +6,7 @@ ghost use Rattle.nr_spec_log.specs.Answer.{answer_of};
 ghost use Rattle.nr_spec_log.specs.Authenticator.{auths_of};
 ghost use Rattle.nr_spec_history.specs.KeyFiles.{seed_of};
 ghost use Rattle.nr_bytes.specs.Views.{offset_of};
-ghost use Rattle.nr_spec_program.specs.Promises.{promise_of};
+ghost use Rattle.nr_spec_texts.specs.Promises.{promise_of};
 ghost use Rattle.nr_spec_program.specs.Command.{
   load,
   promise_plan,
@@ -51,15 +51,17 @@ pub fn read_input<F: Files>(
 }
 
 // What a text of promises says.
-#[tactic(auto, unfolding(nr_spec_program::specs::Promises::promise_of))]
-fn promise_from(alloc: Global, text: &[u8]) -> Result<PromiseFile, Stop>
-    requires { length text.now ≤ 1048576 }
-    ensures { Judges promise_file_of result (well_formed PromiseInput (promise_of text.now)) }
+#[tactic(auto, unfolding(nr_spec_texts::specs::Promises::promise_of))]
+fn promise_from(alloc: Global, text: Vec<u8>) -> Result<PromiseFile, Stop>
+    requires { length text.items ≤ 1048576 }
+    ensures { Judges promise_file_of result (well_formed PromiseInput (promise_of text.items)) }
 {
-    let file = parse(alloc, text)?;
+    let file = parse(alloc, &text)?;
     let says = check(alloc, &file)?;
+    let digest = sha256(&text);
     Ok(PromiseFile {
-        digest: sha256(text),
+        text,
+        digest,
         file,
         says,
     })
@@ -71,7 +73,7 @@ pub fn read_promise<F: Files>(alloc: Global, files: &mut F, name: &str) -> Resul
     ensures { Does promise_file_of (promise_plan name.now) (F.disk files.old) (F.disk files.new) result }
 {
     let text = read_input(alloc, files, Input::Promise, name)?;
-    promise_from(alloc, &text)
+    promise_from(alloc, text)
 }
 
 /// What an answer file holds.

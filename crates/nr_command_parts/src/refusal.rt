@@ -3,7 +3,7 @@
 ghost use Rattle.std.specs.Prelude.{◌≡◌};
 ghost use Rattle.nr_command_parts.specs.declared.refusal.Refusal.TheVariants as refusal;
 ghost use Rattle.nr_command_parts.specs.declared.refusal.Stop.TheVariants as stop;
-ghost use Rattle.nr_command_parts.specs.Views.{halt_of, stop_of, unanswered_of, unappended_of, unloaded_of, unread_of, untyped_of};
+ghost use Rattle.nr_command_parts.specs.Views.{halt_of, stop_of, unanswered_of, unappended_of, unloaded_of, unproved_of, unread_of, untyped_of};
 
 use crate::input::Input;
 use nr_answer::WriteError;
@@ -64,6 +64,8 @@ pub enum Refusal {
     Refused(Fact),
     /// What the files say refuses the recording, or the answer.
     Prevented(LogFact),
+    /// The evidence would have so many bytes, which is more than it may have.
+    LongEvidence(u64),
 }
 
 /// Why a command ends without its text.
@@ -188,6 +190,19 @@ impl From<WriteError> for Stop {
         match fault {
             WriteError::TooLong(found) => Stop::from(LogFact::LongAnswer(found)),
             WriteError::Memory => Stop::Memory,
+        }
+    }
+}
+
+impl From<nr_evidence_file::WriteError> for Stop {
+    ghost from_gives = { λ fault e. e ≡ unproved_of fault };
+
+    fn from(fault: nr_evidence_file::WriteError) -> Stop {
+        match fault {
+            nr_evidence_file::WriteError::TooLong(found) => {
+                Stop::Refused(Refusal::LongEvidence(found))
+            }
+            nr_evidence_file::WriteError::Memory => Stop::Memory,
         }
     }
 }

@@ -8,7 +8,7 @@ use Rattle.nr_spec_report.specs.Wrong.{nothing_before}
 use Rattle.nr_spec_truth.specs.Truths.{is_known, meant}
 use Rattle.nr_spec_outcome.specs.Outcome.{Audited, Form, holds_or, outcome, outcome_over, promise_files}
 use Rattle.nr_spec_plans.specs.Plans.{Refuse}
-use Rattle.nr_spec_program.specs.Promises.{PromiseFile, audited_by}
+use Rattle.nr_spec_texts.specs.Promises.{PromiseFile, audited_by}
 use Rattle.nr_spec_program.specs.Command.{Refused, concluded, judged}
 use Rattle.nr_judging.specs.Views.{AreFew, AreKnown}
 use Rattle.nr_judging.proofs.Known as known
@@ -18,7 +18,7 @@ pub form_refuses : (root : List ℕ) (promise : PromiseFile) (answer : AnswerFil
 unfolding outcome
 form_refuses root promise answer period auths other =
     let files = audited_by promise ∷ [] in
-    ap (λ (b : Bool). concluded (promise_files files) (holds_or b Form (outcome_over root files (meant (promise.says ∷ [])) nothing_before answer period auths))) (ne_eqb answer.first 1 other)
+    ap (λ (b : Bool). concluded (holds_or b Form (outcome_over root files (meant (promise.says ∷ [])) nothing_before answer period auths))) (ne_eqb answer.first 1 other)
 
 -- the promises of the one file are known, and few
 pub one_known : (audited : Audited) (promise : PromiseFile) → audited ≡ audited_by promise

@@ -2,7 +2,7 @@
 //! in.
 
 ghost use Rattle.std.specs.Prelude.{◌≡◌, ◌<◌, ◌≤◌, length};
-ghost use Rattle.nr_spec_program.specs.Promises.{audited_by};
+ghost use Rattle.nr_spec_texts.specs.Promises.{audited_by};
 ghost use Rattle.nr_spec_program.specs.Command.{audit_plan, judged};
 ghost use Rattle.nr_evidence.specs.Views.{period_of};
 ghost use Rattle.nr_audit.specs.Views.{audited_of};
@@ -70,11 +70,11 @@ fn judge_on<L: Ledger>(
     answer: &Answer<'_>,
     auths: &Auths<'_>,
     blank: Blank,
-) -> Result<Ending, Stop>
+) -> Result<Report, Stop>
     requires name { blank.name ≡ L.name }
     requires parts { blank.parts ≡ L.parts }
     requires some { 0 < L.parts }
-    ensures { Settled ending_of result (judged request.now.root.0 (promise_file_of promise.now) answer.now
+    ensures { Settled (report_of auths.now) result (judged request.now.root.0 (promise_file_of promise.now) answer.now
         (period_of request.now.period) auths.now) }
 {
     if answer.first() != 1 {
@@ -84,7 +84,7 @@ fn judge_on<L: Ledger>(
     let texts = [&promise.says];
     let judge = Judges { typed: &texts };
     let mut steps = Steps::<L>::new(blank);
-    let report = match nr_audit::audit(
+    match nr_audit::audit(
         alloc,
         &request.root,
         &files,
@@ -94,10 +94,9 @@ fn judge_on<L: Ledger>(
         &judge,
         &mut steps,
     ) {
-        Ok(report) => report,
-        Err(fault) => return Err(unaudited(fault)),
-    };
-    Ok(report_ending(alloc, &files, &report, auths)?)
+        Ok(report) => Ok(report),
+        Err(fault) => Err(unaudited(fault)),
+    }
 }
 
 // What an answer shows by a promise file.
@@ -107,11 +106,33 @@ fn judge(
     promise: &PromiseFile,
     answer: &Answer<'_>,
     auths: &Auths<'_>,
-) -> Result<Ending, Stop>
-    ensures { Settled ending_of result (judged request.now.root.0 (promise_file_of promise.now) answer.now
+) -> Result<Report, Stop>
+    ensures { Settled (report_of auths.now) result (judged request.now.root.0 (promise_file_of promise.now) answer.now
         (period_of request.now.period) auths.now) }
 {
     judge_on::<Brand>(alloc, request, promise, answer, auths, Blank::new(1))
+}
+
+// Writes the evidence of a report, where it isn't too long. All memory is taken before the file is cut.
+#[tactic(auto, using(nr_spec_plans::proofs::PlanLemmas::planning), unfolding(nr_spec_plans::specs::Plans::Runs, nr_spec_plans::specs::Plans::followed_by))]
+fn save_evidence<F: Files>(
+    alloc: Global,
+    files: &mut F,
+    name: &str,
+    answer: &[u8],
+    promise: &PromiseFile,
+    period: &Period,
+    report: &Report,
+    auths: &Auths<'_>,
+) -> Result<(), Stop>
+    requires { length answer.now ≤ most_answer }
+    ensures { Does (λ done. done) (Room (saving_evidence name.now (evidence_of_report answer.now
+        (promise_file_of promise.now) (period_of period.now) (report_of auths.now report.now))))
+        (F.disk files.old) (F.disk files.new) result }
+{
+    let claims = claims_of(alloc, report, auths)?;
+    let parts = write_parts(alloc, answer, &promise.text, period, &claims)?;
+    write_evidence(files, name, &parts, answer)
 }
 
 /// What the request gives: the report, or the first thing that stops it.
@@ -128,5 +149,10 @@ pub fn audit<F: Files>(
     let answer = read_answer(&answer_bytes)?;
     let auths_bytes = read_input(alloc, files, Input::Auths, request.auths)?;
     let auths = read_auths(&auths_bytes)?;
-    judge(alloc, request, &promise, &answer, &auths)
+    let report = judge(alloc, request, &promise, &answer, &auths)?;
+    let ending = report_ending(alloc, &[audited_by(&promise)], &report, &auths)?;
+    if let Some(name) = request.evidence {
+        save_evidence(alloc, files, name, &answer_bytes, &promise, &request.period, &report, &auths)?;
+    }
+    Ok(ending)
 }

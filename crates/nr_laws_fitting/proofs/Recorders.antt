@@ -31,7 +31,7 @@ use Rattle.nr_spec_typing.specs.Forms.{typed}
 use Rattle.nr_spec_typing.specs.Declarations.{TypedText, Known, nothing, is_group, is_define, is_new, declare, most_seconds, at_most, network, commit, is_like, is_neighbour_name, key_of, neighbour, members, group, pattern, define, places, promise, declaration, declarations, whole, whole_by, typed_text}
 use Rattle.nr_spec_typing.proofs.Fitting.{chained, passed, left, right}
 use Rattle.nr_spec_keys.proofs.LeafLemmas.{length-sha256}
-use Rattle.nr_spec_program.specs.Promises.{PromiseFile, numbers_in, promise_of}
+use Rattle.nr_spec_texts.specs.Promises.{PromiseFile, numbers_in, promise_of}
 use Rattle.nr_spec_steps.specs.Telling.{IsOwn, IsRecorder}
 use Rattle.nr_spec_log.specs.Authenticator.{magic_at}
 use Rattle.nr_spec_history.specs.KeyFiles.{Key, key_magic, seed_size}
@@ -166,9 +166,9 @@ text_small file t h =
 pub own_numbers : (text : List ℕ) (promise : PromiseFile) → promise_of text ≡ Ok promise → IsOwn (numbers_in promise)
 unfolding promise_of
 own_numbers text promise h =
-    let a = bind_ok (file_of text) (λ file. typed_text file >>= λ says. Ok (record { digest = sha256 text; file = file; says = says })) promise h in
-    let b = bind_ok (typed_text a.0) (λ says. Ok (record { digest = sha256 text; file = a.0; says = says })) promise a.2 in
-    let made : PromiseFile = record { digest = sha256 text; file = a.0; says = b.0 } in
+    let a = bind_ok (file_of text) (λ file. typed_text file >>= λ says. Ok (record { text = text; digest = sha256 text; file = file; says = says })) promise h in
+    let b = bind_ok (typed_text a.0) (λ says. Ok (record { text = text; digest = sha256 text; file = a.0; says = says })) promise a.2 in
+    let made : PromiseFile = record { text = text; digest = sha256 text; file = a.0; says = b.0 } in
     let e : made ≡ promise = ok_same made promise b.2 in
     let small = text_small a.0 b.0 b.1 in
     subst (λ (p : PromiseFile). IsOwn (numbers_in p)) e (record { digest = length-sha256 text; count = small.neighbours; delay = small.commit })

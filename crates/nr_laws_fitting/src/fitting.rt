@@ -9,7 +9,7 @@ ghost use Rattle.nr_spec_steps.specs.Steps.{Recorder};
 ghost use Rattle.nr_spec_steps.specs.Telling.{IsOwn, IsRecorder, IsRoomy, MayAllTurn};
 ghost use Rattle.nr_spec_history.specs.KeyFiles.{Key};
 ghost use Rattle.nr_spec_program.specs.Keys.{key_of};
-ghost use Rattle.nr_spec_program.specs.Promises.{PromiseFile, promise_of};
+ghost use Rattle.nr_spec_texts.specs.Promises.{PromiseFile, promise_of};
 ghost use Rattle.nr_spec_program.specs.Recording.{recorder_of};
 ghost use Rattle.nr_laws_accuracy.specs.Allowed.{IsAllowed};
 ghost use Rattle.nr_laws_recording.specs.FirstTurns.{TurnsFit};

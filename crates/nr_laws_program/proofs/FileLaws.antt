@@ -1,24 +1,28 @@
 -- What a run leaves of the files, and what the files make of its ending.
-use Rattle.std.proofs.Common.{◌≡◌, ◌≢◌, ℕ, List, [], ◌∷◌, ◌++◌, Option, Some, None, Result, Ok, Err, refl, sym, ap, subst, ◌∙◌, inl, inr, ◌⊎◌, ⊎_elim, arith}
-use Rattle.std.specs.Prelude.{option_map}
+use Rattle.std.proofs.Common.{◌≡◌, ◌≢◌, ℕ, ◌≤◌, length, List, [], ◌∷◌, ◌++◌, Option, Some, None, Result, Ok, Err, refl, sym, ap, subst, ◌∙◌, inl, inr, ◌⊎◌, ⊎_elim, arith}
+use Rattle.std.specs.Prelude.{nat_lt, option_map}
+use Rattle.std.proofs.lemmas.Bool.{cases_Bool}
+use Rattle.nr_spec_log.specs.Authenticator.{auths_of}
+use Rattle.nr_spec_log.specs.Answer.{answer_of}
+use Rattle.nr_spec_evidence.specs.Evidence.{EvidenceFile, evidence_file, most_evidence}
+use Rattle.nr_spec_saving.specs.Saving.{TooLong, evidence_parts, save_evidence, save_parts}
 use Rattle.nr_spec_plans.specs.Disk as disk
-use Rattle.nr_spec_plans.specs.Plans.{Done, Room, Halt, Refused, Faulted, Runs, followed_by, ◌>>=◌, save, Action, Ask, Read, Cut, Write, Sync, Plan}
+use Rattle.nr_spec_plans.specs.Plans.{Done, Room, Halt, want, Refused, Faulted, Runs, followed_by, ◌>>=◌, save, Action, Ask, Read, Cut, Write, Sync, Plan}
 use Rattle.nr_spec_plans.specs.Laws.{Each, IsRead, Unchanged, CountsOne, fault_in, outcome, Spares, Kept, Saved, Gives, IsAmong, IsLeftBy, reads_after, writes_after}
 use Rattle.nr_spec_plans.specs.Steps.{DoneBy, OnlyBy}
 use Rattle.nr_spec_plans.proofs.StepLaws.{done_by, done_only, each_as}
 use Rattle.nr_spec_plans.proofs.PlanLaws.{writes_nothing, counts_one, ends_so, taken_apart, saved, gives_outcome, spares_others}
 use Rattle.nr_spec_plans.proofs.SaveLaws.{save_leaves, reads_alone}
 use Rattle.nr_spec_history.specs.KeyFiles.{Key, key_file}
-use Rattle.nr_spec_commands.specs.Words.{AnswerRequest, KeygenRequest, RecordRequest, Request, Answer, Audit, Check, Keygen, Record, request_in}
-use Rattle.nr_spec_program.specs.Command.{Work, Ending, Refusal, refusal_ending, fault_ending, key_plan, keygen_plan, key_ending}
+use Rattle.nr_spec_commands.specs.Words.{named, AuditRequest, KeygenRequest, Request, Answer, Audit, Check, Keygen, Record, Verify, request_in}
+use Rattle.nr_spec_program.specs.Command.{judged, audit_plan, evidence_plan, long_evidence, Work, Ending, Refusal, refusal_ending, fault_ending, key_plan, keygen_plan, key_ending}
 use Rattle.nr_spec_program.specs.Table.{plan_of, plan_in, plan_for}
-use Rattle.nr_spec_program.specs.Recording.{answered_ending, recorded_ending}
 use Rattle.nr_spec_program.specs.Running.{RunsTo, Concludes, Answers}
 use Rattle.nr_spec_program.specs.Causes.{Answered, EndOf, EndsAs, EndsBy, IsReadOrSync, LeavesContents, LeavesFiles, NoneRose, NotMetLate, OnlyTheSinkFails, SavesKey, Touches, WroteNothing, ended, log_in, log_names, read_in, read_names, written_in, written_names}
 use Rattle.nr_laws_program.proofs.Names.{among_either, among_first, among_last}
-use Rattle.nr_laws_program.proofs.Phases.{IsLooking, IsPhased, SparesContents, WroteBy, looked_or_wrote, only_holds, only_unchanged, only_writes, phased_after, phased_each, phased_gives, spares_contents}
+use Rattle.nr_laws_program.proofs.Phases.{IsWriting, phased_refusing, phased_then, phased_writing, IsLooking, IsPhased, SparesContents, WroteBy, looked_or_wrote, none_refuses, only_holds, only_unchanged, only_writes, phased_after, phased_each, phased_gives, spares_contents}
 use Rattle.nr_laws_program.proofs.LogKinds.{KindLoads}
-use Rattle.nr_laws_program.proofs.PlanKinds.{KindReads, audit_each, check_each, key_each, keygen_each, refusal_status, request_ends}
+use Rattle.nr_laws_program.proofs.PlanKinds.{KindReads, audit_each, check_each, concluded_each, ends_low, neither, key_each, keygen_each, load_each, parts_each, parts_refuse, promise_each, verify_each, well_formed_each, refusal_status, request_ends}
 use Rattle.nr_laws_program.proofs.RecordPlans.{IsLate, answer_each, answer_phased, record_each, record_phased}
 use Rattle.nr_laws_program.proofs.StatusLaws.{ending_says, sink_alone, still_writes, answered_so, own_status}
 
@@ -33,8 +37,13 @@ TouchesOf request = Touches (read_names request) (log_names request) (written_na
 touches : (request : Request) (name : List ℕ) → IsAmong name (read_names request) → KindReads (TouchesOf request) name
 touches request name is = record { ask = is; read = λ size. is }
 
+named_has : (given : Option (List ℕ)) (n : List ℕ) → given ≡ Some n → IsAmong n (named given)
+named_has None n is = absurd cc
+named_has (Some m) n is = inl (let e : n ≡ m = cc in e)
+
 pub touches_named : (request : Request) → Each (TouchesOf request) (plan_of request)
 touches_named (Audit q) = audit_each (TouchesOf (Audit q)) q (touches (Audit q) q.promise (inl refl)) (touches (Audit q) q.answer (inr (inl refl))) (touches (Audit q) q.auths (inr (inr (inl refl))))
+    (λ n is. record { cut = named_has q.evidence n is; write = λ at bytes. named_has q.evidence n is; sync = named_has q.evidence n is })
 touches_named (Keygen q) = keygen_each (TouchesOf (Keygen q)) q (touches (Keygen q) q.seed (inl refl)) (inl refl) (λ bytes. inl refl) (inl refl)
 touches_named (Check q) = check_each (TouchesOf (Check q)) q (touches (Check q) q.promise (inl refl))
 touches_named (Record q) =
@@ -42,6 +51,7 @@ touches_named (Record q) =
     (λ name is. touches (Record q) name (inr (inr (among_first name q.files (q.log ∷ []) is))))
     (record { ask = inr (inr (among_last q.log q.files)); sync = inl refl; read = λ size. inr (inr (among_last q.log q.files)) })
     (record { write = λ at bytes. inl refl; sync = inl refl })
+touches_named (Verify q) = verify_each (TouchesOf (Verify q)) q (touches (Verify q) q.evidence (inl refl))
 touches_named (Answer q) =
     answer_each (TouchesOf (Answer q)) q (touches (Answer q) q.key (inl refl))
     (record { ask = inr (inl refl); sync = inl refl; read = λ size. inr (inl refl) })
@@ -109,10 +119,38 @@ key_phased : (kind : Action → Type 0) (late : Refusal → Type 0) (q : KeygenR
 unfolding plan_of keygen_plan save followed_by
 key_phased kind late q seed = phased_after kind late (key_plan q) _ (key_each kind q seed) (λ key. inr (tt, λ a. ((tt, λ b. (tt, λ c. tt)), λ b c. tt)))
 
+saved_phased : (kind : Action → Type 0) (late : TooLong → Type 0) (name : List ℕ) (e : EvidenceFile) → IsPhased kind late (save_evidence name e)
+unfolding save_evidence
+saved_phased kind late name e =
+    elim (cases_Bool (nat_lt most_evidence (length (evidence_file e)))) [
+      | inl by ↦ rw by tt
+      | inr by ↦ rw by (phased_writing kind late (save_parts name (evidence_parts e)) (parts_each TooLong IsWriting name (record { cut = tt; write = λ at bytes. tt; sync = tt }) e)
+          (none_refuses late (save_parts name (evidence_parts e)) (parts_refuse TooLong name (evidence_parts e))))
+    ]
+
+-- evidence that is too long is refused before anything is written
+evidence_phased : (kind : Action → Type 0) (late : Refusal → Type 0) (name : Option (List ℕ)) (e : EvidenceFile) → IsPhased kind late (evidence_plan name e)
+unfolding evidence_plan
+evidence_phased kind late None e = tt
+evidence_phased kind late (Some n) e = phased_refusing kind late long_evidence (save_evidence n e) (saved_phased kind (λ refusal. late (long_evidence refusal)) n e)
+
+audit_phased : (kind : Action → Type 0) (late : Refusal → Type 0) (q : AuditRequest) → KindReads kind q.promise → KindReads kind q.answer → KindReads kind q.auths → IsPhased kind late (plan_of (Audit q))
+unfolding plan_of audit_plan
+audit_phased kind late q promise answer auths =
+    phased_after kind late _ _ (promise_each kind q.promise promise) (λ promise.
+    phased_after kind late _ _ (load_each kind _ q.answer answer) (λ answer_bytes.
+    phased_after kind late _ _ (well_formed_each kind _ (answer_of answer_bytes)) (λ answer.
+    phased_after kind late _ _ (load_each kind _ q.auths auths) (λ auths_bytes.
+    phased_after kind late _ _ (well_formed_each kind _ (auths_of auths_bytes)) (λ auths.
+    phased_after kind late (Room (judged q.root promise answer q.period auths)) _ (concluded_each kind _) (λ report.
+    phased_after kind late want _ tt (λ room.
+    phased_then kind late (evidence_plan q.evidence _) _ (evidence_phased kind late q.evidence _) (λ saved. tt) (λ saved. tt))))))))
+
 pub phased_request : (request : Request) → IsPhased (LooksIn request) IsLate (plan_of request)
-phased_request (Audit q) = phased_each (LooksIn (Audit q)) IsLate (plan_of (Audit q)) (audit_each (LooksIn (Audit q)) q (looks [] q.promise) (looks [] q.answer) (looks [] q.auths))
+phased_request (Audit q) = audit_phased (LooksIn (Audit q)) IsLate q (looks [] q.promise) (looks [] q.answer) (looks [] q.auths)
 phased_request (Keygen q) = key_phased (LooksIn (Keygen q)) IsLate q (looks [] q.seed)
 phased_request (Check q) = phased_each (LooksIn (Check q)) IsLate (plan_of (Check q)) (check_each (LooksIn (Check q)) q (looks [] q.promise))
+phased_request (Verify q) = phased_each (LooksIn (Verify q)) IsLate (plan_of (Verify q)) (verify_each (LooksIn (Verify q)) q (looks [] q.evidence))
 phased_request (Record q) = record_phased (LooksIn (Record q)) q (looks (q.log ∷ []) q.promise) (looks (q.log ∷ []) q.key) (λ name is. looks (q.log ∷ []) name) (loads_log q.log)
 phased_request (Answer q) = answer_phased (LooksIn (Answer q)) q (looks (q.log ∷ []) q.key) (loads_log q.log)
 
@@ -331,46 +369,39 @@ run_may_leave words q old new before after status t is told run = may_leave_in q
 -- ---- endings with which no file has changed
 
 -- what wrote gives such an ending only where it is refused late
-not_written : (request : Request) (late : Refusal → Type 0) (old new : disk.Disk) (result : Result Ending (Halt Refusal)) (e : Ending) → ((ending : Ending) → EndOf request ending → ending.status ≡ 0)
+not_written : (request : Request) (late : Refusal → Type 0) (old new : disk.Disk) (result : Result Ending (Halt Refusal)) (e : Ending)
     → ((refusal : Refusal) → result ≡ Err (Refused refusal) → late refusal → ⊥) → Runs (plan_of request) old new result → Concludes result e → WroteNothing e.status → WroteBy late result → ⊥
-not_written request late old new (Ok ending) e zero early runs c none wrote = none.0 (ap (λ (x : Ending). x.status) c ∙ zero ending (ends_so (EndOf request) (plan_of request) old new ending (request_ends request) runs))
-not_written request late old new (Err (Refused refusal)) e zero early runs c none wrote = early refusal refl wrote
-not_written request late old new (Err (Faulted disk.ReadFault)) e zero early runs c none wrote = wrote
-not_written request late old new (Err (Faulted disk.WriteFault)) e zero early runs c none wrote = none.1 (ap (λ (x : Ending). x.status) c)
-not_written request late old new (Err (Faulted disk.Memory)) e zero early runs c none wrote = none.2 (ap (λ (x : Ending). x.status) c)
+not_written request late old new (Ok ending) e early runs c none wrote = neither e.status (subst (λ (x : Ending). x.status ≤ 1) (sym c) (ends_low request ending (ends_so (EndOf request) (plan_of request) old new ending (request_ends request) runs))) none.0 none.1
+not_written request late old new (Err (Refused refusal)) e early runs c none wrote = early refusal refl wrote
+not_written request late old new (Err (Faulted disk.ReadFault)) e early runs c none wrote = wrote
+not_written request late old new (Err (Faulted disk.WriteFault)) e early runs c none wrote = none.2 (ap (λ (x : Ending). x.status) c)
+not_written request late old new (Err (Faulted disk.Memory)) e early runs c none wrote = none.3 (ap (λ (x : Ending). x.status) c)
 
 -- steps of the first kind alone were done then
-looked_alone : (request : Request) (kind : Action → Type 0) (late : Refusal → Type 0) (old new : disk.Disk) (result : Result Ending (Halt Refusal)) (e : Ending) → ((ending : Ending) → EndOf request ending → ending.status ≡ 0)
+looked_alone : (request : Request) (kind : Action → Type 0) (late : Refusal → Type 0) (old new : disk.Disk) (result : Result Ending (Halt Refusal)) (e : Ending)
     → ((refusal : Refusal) → result ≡ Err (Refused refusal) → late refusal → ⊥) → IsPhased kind late (plan_of request) → Runs (Room (plan_of request)) old new result → Concludes result e → WroteNothing e.status → OnlyBy kind old new
 unfolding Runs
-looked_alone request kind late old new result e zero early phased (inl (same, is)) c none = record { steps = []; lead = same; each = tt }
-looked_alone request kind late old new result e zero early phased (inr runs) c none =
-    ⊎_elim (λ only. only) (λ wrote. absurd (not_written request late old new result e zero early runs c none wrote)) (looked_or_wrote kind late (plan_of request) old new result phased runs)
-
-key_zero : (q : KeygenRequest) (ending : Ending) → EndOf (Keygen q) ending → ending.status ≡ 0
-unfolding key_ending
-key_zero q ending (key, is) = ap (λ (x : Ending). x.status) is
-
-record_zero : (q : RecordRequest) (ending : Ending) → EndOf (Record q) ending → ending.status ≡ 0
-unfolding recorded_ending
-record_zero q ending (before, after, (skips, is)) = ap (λ (x : Ending). x.status) is
-
-answer_zero : (q : AnswerRequest) (ending : Ending) → EndOf (Answer q) ending → ending.status ≡ 0
-unfolding answered_ending
-answer_zero q ending (answer, is) = ap (λ (x : Ending). x.status) is
+looked_alone request kind late old new result e early phased (inl (same, is)) c none = record { steps = []; lead = same; each = tt }
+looked_alone request kind late old new result e early phased (inr runs) c none =
+    ⊎_elim (λ only. only) (λ wrote. absurd (not_written request late old new result e early runs c none wrote)) (looked_or_wrote kind late (plan_of request) old new result phased runs)
 
 refused_leave : (request : Option Request) (old new : disk.Disk) (result : Result Ending (Halt Refusal)) (e : Ending) → log_in request ≡ [] → Runs (Room (plan_in request)) old new result → Concludes result e → WroteNothing e.status → LeavesFiles old new
 refused_leave None old new result e unsynced runs c none = reading_leaves None old new result refl refl runs
-refused_leave (Some (Audit q)) old new result e unsynced runs c none = reading_leaves (Some (Audit q)) old new result refl refl runs
+refused_leave (Some (Audit q)) old new result e unsynced runs c none =
+    leaves_by old new (looked_alone (Audit q) IsRead (λ refusal. ⊥) old new result e (λ refusal is late. late) (audit_phased IsRead (λ refusal. ⊥) q (reads q.promise) (reads q.answer) (reads q.auths)) runs c none)
+  where
+    reads : (name : List ℕ) → KindReads IsRead name
+    reads name = record { ask = tt; read = λ size. tt }
 refused_leave (Some (Keygen q)) old new result e unsynced runs c none =
-    leaves_by old new (looked_alone (Keygen q) IsRead (λ refusal. ⊥) old new result e (key_zero q) (λ refusal is late. late) (key_phased IsRead (λ refusal. ⊥) q (record { ask = tt; read = λ size. tt })) runs c none)
+    leaves_by old new (looked_alone (Keygen q) IsRead (λ refusal. ⊥) old new result e (λ refusal is late. late) (key_phased IsRead (λ refusal. ⊥) q (record { ask = tt; read = λ size. tt })) runs c none)
 refused_leave (Some (Check q)) old new result e unsynced runs c none = reading_leaves (Some (Check q)) old new result refl refl runs
+refused_leave (Some (Verify q)) old new result e unsynced runs c none = reading_leaves (Some (Verify q)) old new result refl refl runs
 refused_leave (Some (Record q)) old new result e unsynced runs c none = absurd cc
 refused_leave (Some (Answer q)) old new result e unsynced runs c none = absurd cc
 
 -- an ending with which nothing was written, whether or not the sink took it
 wrote_nothing : (e : Ending) (got : Result (Unit {0}) disk.Fault) (status : ℕ) → Answers e got status → Answered WroteNothing e status → WroteNothing e.status
-wrote_nothing e got status is answered = answered_so WroteNothing e got status (λ no. no.1 refl) (λ no. no.2 refl) is answered
+wrote_nothing e got status is answered = answered_so WroteNothing e got status (λ no. no.2 refl) (λ no. no.3 refl) is answered
 
 pub run_refused : (words : List (List ℕ)) (old new : disk.Disk) (before after : disk.Tape) (status : ℕ) → log_in (request_in words) ≡ [] → (run : RunsTo (plan_for words) old new before after status) → Answered WroteNothing run.ending status → LeavesFiles old new
 run_refused words old new before after status unsynced run answered =
@@ -399,11 +430,12 @@ not_late result early refusal is late = let no = early refusal is in absurd cc
 contents_leave : (request : Option Request) (old new : disk.Disk) (result : Result Ending (Halt Refusal)) (e : Ending) → NotMetLate result → Runs (Room (plan_in request)) old new result → Concludes result e → WroteNothing e.status
     → LeavesContents (log_in request) old new
 contents_leave None old new result e early runs c none = reading_left None old new result refl refl runs
-contents_leave (Some (Audit q)) old new result e early runs c none = reading_left (Some (Audit q)) old new result refl refl runs
+contents_leave (Some (Audit q)) old new result e early runs c none = contents_left [] old new (looked_alone (Audit q) (LooksIn (Audit q)) IsLate old new result e (not_late result early) (phased_request (Audit q)) runs c none)
 contents_leave (Some (Check q)) old new result e early runs c none = reading_left (Some (Check q)) old new result refl refl runs
-contents_leave (Some (Keygen q)) old new result e early runs c none = contents_left [] old new (looked_alone (Keygen q) (LooksIn (Keygen q)) IsLate old new result e (key_zero q) (not_late result early) (phased_request (Keygen q)) runs c none)
-contents_leave (Some (Record q)) old new result e early runs c none = contents_left (q.log ∷ []) old new (looked_alone (Record q) (LooksIn (Record q)) IsLate old new result e (record_zero q) (not_late result early) (phased_request (Record q)) runs c none)
-contents_leave (Some (Answer q)) old new result e early runs c none = contents_left (q.log ∷ []) old new (looked_alone (Answer q) (LooksIn (Answer q)) IsLate old new result e (answer_zero q) (not_late result early) (phased_request (Answer q)) runs c none)
+contents_leave (Some (Verify q)) old new result e early runs c none = reading_left (Some (Verify q)) old new result refl refl runs
+contents_leave (Some (Keygen q)) old new result e early runs c none = contents_left [] old new (looked_alone (Keygen q) (LooksIn (Keygen q)) IsLate old new result e (not_late result early) (phased_request (Keygen q)) runs c none)
+contents_leave (Some (Record q)) old new result e early runs c none = contents_left (q.log ∷ []) old new (looked_alone (Record q) (LooksIn (Record q)) IsLate old new result e (not_late result early) (phased_request (Record q)) runs c none)
+contents_leave (Some (Answer q)) old new result e early runs c none = contents_left (q.log ∷ []) old new (looked_alone (Answer q) (LooksIn (Answer q)) IsLate old new result e (not_late result early) (phased_request (Answer q)) runs c none)
 
 pub run_refused_contents : (words : List (List ℕ)) (old new : disk.Disk) (before after : disk.Tape) (status : ℕ) (run : RunsTo (plan_for words) old new before after status) → Answered WroteNothing run.ending status → NotMetLate run.result
     → LeavesContents (log_in (request_in words)) old new

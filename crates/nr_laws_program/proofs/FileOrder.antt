@@ -1,23 +1,28 @@
 -- What was done before a refusal.
-use Rattle.std.proofs.Common.{ℕ, List, Option, Some, None, Result, Ok, Err, refl, inl, inr}
-use Rattle.std.specs.Prelude.{nat_le}
+use Rattle.std.proofs.Common.{ℕ, length, List, Option, Some, None, Result, Ok, Err, refl, inl, inr}
+use Rattle.std.specs.Prelude.{Bool, nat_le, nat_lt}
 use Rattle.std.proofs.lemmas.Bool.{cases_Bool}
-use Rattle.nr_spec_plans.specs.Plans.{Room, followed_by, ◌>>=◌, want, save, Action, Ask, Read}
+use Rattle.nr_spec_plans.specs.Plans.{Done, Room, followed_by, ◌>>=◌, want, save, Action, Ask, Read}
 use Rattle.nr_spec_plans.specs.Order.{Refuses, Allows}
 use Rattle.nr_spec_plans.proofs.OrderLaws.{refuses_followed, allows_followed}
 use Rattle.nr_spec_log.specs.Authenticator.{auths_of}
 use Rattle.nr_spec_log.specs.Answer.{AnswerFile, answer_of}
 use Rattle.nr_spec_history.specs.KeyFiles.{seed_of}
-use Rattle.nr_spec_promises.specs.Files as files
+use Rattle.nr_spec_evidence.specs.Evidence.{EvidenceFile, evidence_file, most_evidence}
+use Rattle.nr_spec_saving.specs.Saving.{TooLong, evidence_parts, save_evidence, save_parts}
+use Rattle.nr_spec_verify.specs.Verified as evidence
+use Rattle.nr_spec_verify.specs.Verified.{verified}
 use Rattle.nr_spec_outcome.specs.Report.{Report}
 use Rattle.nr_spec_outcome.specs.Outcome.{Fact}
-use Rattle.nr_spec_commands.specs.Words.{AuditRequest, CheckRequest, KeygenRequest, Audit, Check, Keygen}
-use Rattle.nr_spec_program.specs.Promises.{PromiseFile, promise_of}
-use Rattle.nr_spec_program.specs.Command.{Input, PromiseInput, AnswerInput, AuthsInput, SeedInput, Work, Ending, Refusal, NoFile, Limit, Malformed, load, sized, well_formed, concluded, judged, promise_plan, check_plan, audit_plan, key_plan, keygen_plan, input_limit}
+use Rattle.nr_spec_commands.specs.Words.{AuditRequest, CheckRequest, KeygenRequest, VerifyRequest, Audit, Check, Keygen, Verify}
+use Rattle.nr_spec_texts.specs.Promises.{PromiseFile, promise_of}
+use Rattle.nr_spec_program.specs.Command.{Input, PromiseInput, AnswerInput, AuthsInput, SeedInput, EvidenceInput, Work, Ending, Refusal, NoFile, Limit, Malformed, load, sized, well_formed, LongEvidence, evidence_plan, long_evidence, concluded, judged, promise_plan, check_plan, audit_plan, key_plan, keygen_plan, input_limit}
+use Rattle.nr_spec_program.specs.Verifying.{checked, verified_ending, verify_plan}
 use Rattle.nr_spec_program.specs.Table.{plan_of}
 use Rattle.nr_spec_program.specs.Command as command
 use Rattle.nr_spec_program.specs.Causes.{Permits}
-use Rattle.nr_laws_program.proofs.PlanKinds.{key_each, load_each, promise_each, sized_each, well_formed_each}
+use Rattle.nr_laws_program.proofs.Phases.{allows_refusing, none_allows, none_refuses, refuses_refusing}
+use Rattle.nr_laws_program.proofs.PlanKinds.{after_report, checked_each, concluded_each, evidence_each, key_each, load_each, parts_refuse, promise_each, sized_each, well_formed_each}
 
 -- ---- the refusals of each part of a plan
 
@@ -33,9 +38,27 @@ pub formed_refuses : {A : Type 0} (P : Refusal → Type 0) (input : Input) (foun
 formed_refuses P input (Ok value) malformed = tt
 formed_refuses P input (Err place) malformed = malformed place
 
-concluded_refuses : (P : Refusal → Type 0) (promises : List files.PromiseFile) (found : Result Report Fact) → ((fact : Fact) → P (command.Refused fact)) → Refuses P (concluded promises found)
-concluded_refuses P promises (Ok report) fact_has = tt
-concluded_refuses P promises (Err fact) fact_has = fact_has fact
+concluded_refuses : (P : Refusal → Type 0) (found : Result Report Fact) → ((fact : Fact) → P (command.Refused fact)) → Refuses P (concluded found)
+concluded_refuses P (Ok report) fact_has = tt
+concluded_refuses P (Err fact) fact_has = fact_has fact
+
+saved_refuses : (P : TooLong → Type 0) (name : List ℕ) (e : EvidenceFile) → ((found : ℕ) → P (record { found = found })) → Refuses P (save_evidence name e)
+unfolding save_evidence
+saved_refuses P name e long =
+    elim (cases_Bool (nat_lt most_evidence (length (evidence_file e)))) [
+      | inl by ↦ rw by (long (length (evidence_file e)))
+      | inr by ↦ rw by (none_refuses P (save_parts name (evidence_parts e)) (parts_refuse TooLong name (evidence_parts e)))
+    ]
+
+evidence_refuses : (P : Refusal → Type 0) (name : Option (List ℕ)) (e : EvidenceFile) → ((found : ℕ) → P (LongEvidence found)) → Refuses P (evidence_plan name e)
+unfolding evidence_plan
+evidence_refuses P None e long = tt
+evidence_refuses P (Some n) e long = refuses_refusing P long_evidence (save_evidence n e) (saved_refuses (λ refusal. P (long_evidence refusal)) n e long)
+
+checked_refuses : (P : Refusal → Type 0) (found : Result (List Bool) evidence.Refusal) → ((place : ℕ) → P (Malformed EvidenceInput place)) → ((fact : Fact) → P (command.Refused fact)) → Refuses P (checked found)
+checked_refuses P (Ok claims) malformed fact_has = tt
+checked_refuses P (Err (evidence.Malformed place)) malformed fact_has = malformed place
+checked_refuses P (Err (evidence.Refused fact)) malformed fact_has = fact_has fact
 
 -- ---- each part of a plan by itself
 
@@ -55,9 +78,28 @@ pub formed_allows : {A : Type 0} (allowed : Refusal → Action → Type 0) (inpu
 formed_allows allowed input (Ok value) = tt
 formed_allows allowed input (Err place) = tt
 
-concluded_allows : (allowed : Refusal → Action → Type 0) (promises : List files.PromiseFile) (found : Result Report Fact) → Allows allowed (concluded promises found)
-concluded_allows allowed promises (Ok report) = tt
-concluded_allows allowed promises (Err fact) = tt
+concluded_allows : (allowed : Refusal → Action → Type 0) (found : Result Report Fact) → Allows allowed (concluded found)
+concluded_allows allowed (Ok report) = tt
+concluded_allows allowed (Err fact) = tt
+
+-- nothing refuses after the evidence is cut
+saved_allows : (allowed : TooLong → Action → Type 0) (name : List ℕ) (e : EvidenceFile) → Allows allowed (save_evidence name e)
+unfolding save_evidence
+saved_allows allowed name e =
+    elim (cases_Bool (nat_lt most_evidence (length (evidence_file e)))) [
+      | inl by ↦ rw by tt
+      | inr by ↦ rw by (none_allows allowed (save_parts name (evidence_parts e)) (parts_refuse TooLong name (evidence_parts e)))
+    ]
+
+evidence_allows : (allowed : Refusal → Action → Type 0) (name : Option (List ℕ)) (e : EvidenceFile) → Allows allowed (evidence_plan name e)
+unfolding evidence_plan
+evidence_allows allowed None e = tt
+evidence_allows allowed (Some n) e = allows_refusing allowed long_evidence (save_evidence n e) (saved_allows (λ refusal action. allowed (long_evidence refusal) action) n e)
+
+checked_allows : (allowed : Refusal → Action → Type 0) (found : Result (List Bool) evidence.Refusal) → Allows allowed (checked found)
+checked_allows allowed (Ok claims) = tt
+checked_allows allowed (Err (evidence.Malformed place)) = tt
+checked_allows allowed (Err (evidence.Refused fact)) = tt
 
 pub promise_allows : (allowed : Refusal → Action → Type 0) (name : List ℕ) → allowed (NoFile PromiseInput) (Ask name) → ((found : ℕ) → allowed (Limit PromiseInput found) (Ask name))
     → ((place : ℕ) → allowed (Malformed PromiseInput place) (Ask name)) → ((size place : ℕ) → allowed (Malformed PromiseInput place) (Read name size)) → Allows allowed (promise_plan name)
@@ -77,6 +119,7 @@ promise_allows allowed name none limit asked read =
 record OfAuths (P : Refusal → Type 0) : Type 0 where
   pub malformed : (place : ℕ) → P (Malformed AuthsInput place)
   pub fact : (fact : Fact) → P (command.Refused fact)
+  pub long : (found : ℕ) → P (LongEvidence found)
 
 record OfContent (P : Refusal → Type 0) : Type 0 where
   pub malformed : (place : ℕ) → P (Malformed AnswerInput place)
@@ -93,27 +136,27 @@ promise_asked : (q : AuditRequest) → OfAnswer (λ r. Permits (Audit q) r (Ask 
 promise_asked q = record {
   none = inl refl;
   limit = λ found. inl refl;
-  later = record { malformed = λ place. inl refl; none = inl refl; limit = λ found. inl refl; later = record { malformed = λ place. inl refl; fact = λ fact. inl refl } };
+  later = record { malformed = λ place. inl refl; none = inl refl; limit = λ found. inl refl; later = record { malformed = λ place. inl refl; fact = λ fact. inl refl; long = λ found. inl refl } };
 }
 
 promise_read : (q : AuditRequest) (size : ℕ) → OfAnswer (λ r. Permits (Audit q) r (Read q.promise size))
 promise_read q size = record {
   none = inl refl;
   limit = λ found. inl refl;
-  later = record { malformed = λ place. inl refl; none = inl refl; limit = λ found. inl refl; later = record { malformed = λ place. inl refl; fact = λ fact. inl refl } };
+  later = record { malformed = λ place. inl refl; none = inl refl; limit = λ found. inl refl; later = record { malformed = λ place. inl refl; fact = λ fact. inl refl; long = λ found. inl refl } };
 }
 
 answer_asked : (q : AuditRequest) → OfContent (λ r. Permits (Audit q) r (Ask q.answer))
-answer_asked q = record { malformed = λ place. inr (inl refl); none = inr (inl refl); limit = λ found. inr (inl refl); later = record { malformed = λ place. inr (inl refl); fact = λ fact. inr (inl refl) } }
+answer_asked q = record { malformed = λ place. inr (inl refl); none = inr (inl refl); limit = λ found. inr (inl refl); later = record { malformed = λ place. inr (inl refl); fact = λ fact. inr (inl refl); long = λ found. inr (inl refl) } }
 
 answer_read : (q : AuditRequest) (size : ℕ) → OfContent (λ r. Permits (Audit q) r (Read q.answer size))
-answer_read q size = record { malformed = λ place. inr (inl refl); none = inr (inl refl); limit = λ found. inr (inl refl); later = record { malformed = λ place. inr (inl refl); fact = λ fact. inr (inl refl) } }
+answer_read q size = record { malformed = λ place. inr (inl refl); none = inr (inl refl); limit = λ found. inr (inl refl); later = record { malformed = λ place. inr (inl refl); fact = λ fact. inr (inl refl); long = λ found. inr (inl refl) } }
 
 auths_asked : (q : AuditRequest) → OfAuths (λ r. Permits (Audit q) r (Ask q.auths))
-auths_asked q = record { malformed = λ place. inr (inr (inl refl)); fact = λ fact. inr (inr (inl refl)) }
+auths_asked q = record { malformed = λ place. inr (inr (inl refl)); fact = λ fact. inr (inr (inl refl)); long = λ found. inr (inr (inl refl)) }
 
 auths_read : (q : AuditRequest) (size : ℕ) → OfAuths (λ r. Permits (Audit q) r (Read q.auths size))
-auths_read q size = record { malformed = λ place. inr (inr (inl refl)); fact = λ fact. inr (inr (inl refl)) }
+auths_read q size = record { malformed = λ place. inr (inr (inl refl)); fact = λ fact. inr (inr (inl refl)); long = λ found. inr (inr (inl refl)) }
 
 pub audit_allows : (q : AuditRequest) → Allows (Permits (Audit q)) (plan_of (Audit q))
 unfolding plan_of audit_plan
@@ -124,21 +167,28 @@ audit_allows q =
     (load_each _ AnswerInput q.answer (record { ask = λ bytes. on_content promise bytes _ (answer_asked q); read = λ size bytes. on_content promise bytes _ (answer_read q size) }))
     (λ answer_bytes. allows_followed (Permits (Audit q)) _ _ (formed_allows (Permits (Audit q)) AnswerInput (answer_of answer_bytes)) (well_formed_each _ AnswerInput (answer_of answer_bytes))
     (λ answer. allows_followed (Permits (Audit q)) _ _ (load_allows (Permits (Audit q)) AuthsInput q.auths (inr (inr (inl refl))) (λ found. inr (inr (inl refl))))
-    (load_each _ AuthsInput q.auths (record { ask = λ bytes. on_auths promise answer bytes _ (auths_asked q); read = λ size bytes. on_auths promise answer bytes _ (auths_read q size) }))
-    (λ auths_bytes. allows_followed (Permits (Audit q)) _ _ (formed_allows (Permits (Audit q)) AuthsInput (auths_of auths_bytes)) (well_formed_each _ AuthsInput (auths_of auths_bytes)) (λ auths. concluded_allows (Permits (Audit q)) _ _)))))
+    (load_each _ AuthsInput q.auths (record { ask = λ bytes. on_auths promise answer_bytes answer bytes _ (auths_asked q); read = λ size bytes. on_auths promise answer_bytes answer bytes _ (auths_read q size) }))
+    (λ auths_bytes. allows_followed (Permits (Audit q)) _ _ (formed_allows (Permits (Audit q)) AuthsInput (auths_of auths_bytes)) (well_formed_each _ AuthsInput (auths_of auths_bytes)) (λ auths.
+    allows_followed (Permits (Audit q)) (Room (judged q.root promise answer q.period auths)) _ (concluded_allows (Permits (Audit q)) _) (concluded_each _ _)
+    (λ report. allows_followed (Permits (Audit q)) want _ tt tt
+    (λ room. allows_followed (Permits (Audit q)) (evidence_plan q.evidence _) _ (evidence_allows (Permits (Audit q)) q.evidence _) (evidence_each _ q.evidence _ (λ n is. record { cut = λ saved. tt; write = λ at bytes saved. tt; sync = λ saved. tt })) (λ saved. tt))))))))
   where
-    on_auths : (promise : PromiseFile) (answer : AnswerFile) (bytes : List ℕ) (P : Refusal → Type 0) → OfAuths P
-        → Refuses P (well_formed AuthsInput (auths_of bytes) >>= λ auths. Room (judged q.root promise answer q.period auths))
-    on_auths promise answer bytes P of = refuses_followed P _ _ (formed_refuses P AuthsInput (auths_of bytes) of.malformed) (λ auths. concluded_refuses P _ _ of.fact)
+    on_auths : (promise : PromiseFile) (answer_bytes : List ℕ) (answer : AnswerFile) (bytes : List ℕ) (P : Refusal → Type 0) → OfAuths P
+        → Refuses P (well_formed AuthsInput (auths_of bytes) >>= λ auths. Room (judged q.root promise answer q.period auths) >>= after_report q answer_bytes promise)
+    on_auths promise answer_bytes answer bytes P of =
+        refuses_followed P _ _ (formed_refuses P AuthsInput (auths_of bytes) of.malformed)
+        (λ auths. refuses_followed P (Room (judged q.root promise answer q.period auths)) _ (concluded_refuses P _ of.fact)
+        (λ report. refuses_followed P want _ tt
+        (λ room. refuses_followed P (evidence_plan q.evidence _) _ (evidence_refuses P q.evidence _ of.long) (λ saved. tt))))
 
     on_content : (promise : PromiseFile) (bytes : List ℕ) (P : Refusal → Type 0) → OfContent P
-        → Refuses P (well_formed AnswerInput (answer_of bytes) >>= λ answer. load AuthsInput q.auths >>= λ auths_bytes. well_formed AuthsInput (auths_of auths_bytes) >>= λ auths. Room (judged q.root promise answer q.period auths))
+        → Refuses P (well_formed AnswerInput (answer_of bytes) >>= λ answer. load AuthsInput q.auths >>= λ auths_bytes. well_formed AuthsInput (auths_of auths_bytes) >>= λ auths. Room (judged q.root promise answer q.period auths) >>= after_report q bytes promise)
     on_content promise bytes P of =
         refuses_followed P _ _ (formed_refuses P AnswerInput (answer_of bytes) of.malformed)
-        (λ answer. refuses_followed P _ _ (load_refuses P AuthsInput q.auths of.none of.limit) (λ auths_bytes. on_auths promise answer auths_bytes P of.later))
+        (λ answer. refuses_followed P _ _ (load_refuses P AuthsInput q.auths of.none of.limit) (λ auths_bytes. on_auths promise bytes answer auths_bytes P of.later))
 
     on_answer : (promise : PromiseFile) (P : Refusal → Type 0) → OfAnswer P
-        → Refuses P (load AnswerInput q.answer >>= λ bytes. well_formed AnswerInput (answer_of bytes) >>= λ answer. load AuthsInput q.auths >>= λ auths_bytes. well_formed AuthsInput (auths_of auths_bytes) >>= λ auths. Room (judged q.root promise answer q.period auths))
+        → Refuses P (load AnswerInput q.answer >>= λ bytes. well_formed AnswerInput (answer_of bytes) >>= λ answer. load AuthsInput q.auths >>= λ auths_bytes. well_formed AuthsInput (auths_of auths_bytes) >>= λ auths. Room (judged q.root promise answer q.period auths) >>= after_report q bytes promise)
     on_answer promise P of = refuses_followed P _ _ (load_refuses P AnswerInput q.answer of.none of.limit) (λ bytes. on_content promise bytes P of.later)
 
 -- ---- the other requests
@@ -152,6 +202,21 @@ check_allows q =
       read = λ size promise. refuses_followed (λ r. Permits (Check q) r (Read q.promise size)) want _ tt (λ room. tt);
     }))
     (λ promise. allows_followed (Permits (Check q)) want _ tt tt (λ room. tt))
+
+pub verify_allows : (q : VerifyRequest) → Allows (Permits (Verify q)) (plan_of (Verify q))
+unfolding plan_of verify_plan
+verify_allows q =
+    allows_followed (Permits (Verify q)) _ _ (load_allows (Permits (Verify q)) EvidenceInput q.evidence (inl refl) (λ found. inl refl))
+    (load_each _ EvidenceInput q.evidence (record {
+      ask = λ bytes. on_claims bytes (λ r. Permits (Verify q) r (Ask q.evidence)) (λ place. inl refl) (λ fact. inl refl);
+      read = λ size bytes. on_claims bytes (λ r. Permits (Verify q) r (Read q.evidence size)) (λ place. inl refl) (λ fact. inl refl);
+    }))
+    (λ bytes. allows_followed (Permits (Verify q)) (Room (checked (verified q.root bytes))) _ (checked_allows (Permits (Verify q)) _) (checked_each _ _)
+    (λ claims. allows_followed (Permits (Verify q)) want _ tt tt (λ room. tt)))
+  where
+    on_claims : (bytes : List ℕ) (P : Refusal → Type 0) → ((place : ℕ) → P (Malformed EvidenceInput place)) → ((fact : Fact) → P (command.Refused fact))
+        → Refuses P (Room (checked (verified q.root bytes)) >>= λ claims. want >>= λ room. Done (verified_ending claims))
+    on_claims bytes P malformed fact_has = refuses_followed P (Room (checked (verified q.root bytes))) _ (checked_refuses P _ malformed fact_has) (λ claims. refuses_followed P want _ tt (λ room. tt))
 
 key_allows : (q : KeygenRequest) → Allows (Permits (Keygen q)) (key_plan q)
 unfolding key_plan

@@ -10,3 +10,4 @@ pub mod RecordOrder
 pub mod Parts
 pub mod Outcomes
 pub mod ReplyLaws
+pub mod AuditLaws

@@ -1,5 +1,5 @@
 -- Runs of plans that were put together, taken apart.
-use Rattle.std.proofs.Common.{◌≡◌, Result, Ok, Err, refl, sym, ap, subst, ◌∙◌, inl, inr, ⊎_elim}
+use Rattle.std.proofs.Common.{◌≡◌, Result, Ok, Err, refl, inl, inr, ⊎_elim}
 use Rattle.nr_spec_plans.specs.Disk.{Disk, Memory}
 use Rattle.nr_spec_plans.specs.Plans.{Plan, Done, Refuse, Room, Act, Halt, Refused, Faulted, Runs, followed_by, halting, refusing}
 use Rattle.nr_spec_plans.specs.Laws.{Each}

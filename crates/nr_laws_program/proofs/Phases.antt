@@ -283,6 +283,20 @@ phased_then kind late (Room next) f phased each refuses = phased_then kind late 
 phased_then kind late (Act action next) f (inl (is, phased)) each refuses = inl (is, λ answer. phased_then kind late (next answer) f (phased answer) each refuses)
 phased_then kind late (Act action next) f (inr (is, rest)) each refuses = inr (is, λ answer. (each_then (next answer) f (rest answer).0 each, refuses_then late (next answer) f (rest answer).1 refuses))
 
+-- ---- plans that refuse nothing
+
+pub none_refuses : {E A : Type 0} (P : E → Type 0) (p : Plan E A) → Refuses (λ refusal. ⊥) p → Refuses P p
+none_refuses P (Done value) none = tt
+none_refuses P (Refuse refusal) none = absurd none
+none_refuses P (Room next) none = none_refuses P next none
+none_refuses P (Act action next) none = λ answer. none_refuses P (next answer) (none answer)
+
+pub none_allows : {E A : Type 0} (allowed : E → Action → Type 0) (p : Plan E A) → Refuses (λ refusal. ⊥) p → Allows allowed p
+none_allows allowed (Done value) none = tt
+none_allows allowed (Refuse refusal) none = tt
+none_allows allowed (Room next) none = none_allows allowed next none
+none_allows allowed (Act action next) none = λ answer. (none_refuses (λ refusal. allowed refusal action) (next answer) (none answer), none_allows allowed (next answer) (none answer))
+
 -- ---- refusals in other words
 
 pub each_refusing : {E F A : Type 0} (kind : Action → Type 0) (as_said : E → F) (p : Plan E A) → Each kind p → Each kind (refusing as_said p)

@@ -7,7 +7,7 @@ ghost use Rattle.nr_spec_plans.specs.Plans.{Refused};
 ghost use Rattle.nr_spec_plans.specs.Steps.{DoneBy, OnlyBy};
 ghost use Rattle.nr_spec_history.specs.KeyFiles.{Key, key_file};
 ghost use Rattle.nr_spec_log.specs.Answer.{AnswerFile, answer_file};
-ghost use Rattle.nr_spec_commands.specs.Words.{Answer, AnswerRequest, Keygen, KeygenRequest, Request, request_in};
+ghost use Rattle.nr_spec_commands.specs.Words.{Answer, AnswerRequest, Audit, AuditRequest, Keygen, KeygenRequest, Request, request_in};
 ghost use Rattle.nr_spec_program.specs.Command.{Ending, Refusal, Work, fault_ending, key_plan};
 ghost use Rattle.nr_spec_program.specs.Recording.{answered_ending};
 ghost use Rattle.nr_spec_program.specs.Table.{plan_for, plan_of};
@@ -23,6 +23,7 @@ ghost use Rattle.nr_spec_program.specs.Causes.{
   NotMetLate,
   OnlyTheSinkFails,
   Permits,
+  SavesEvidence,
   SavesKey,
   Touches,
   WroteNothing,
@@ -88,7 +89,7 @@ pub fn reading_fails_at_the_sink_alone()
         → OnlyTheSinkFails old new before after status }
 {}
 
-/// With another status than 0, 5 and 6, or an ending of such a status, a run whose words name no log has changed no
+/// With another status than 0, 1, 5 and 6, or an ending of such a status, a run whose words name no log has changed no
 /// file, and none was cut, written or synced.
 pub fn refusals_change_no_file()
     ensures { (words : List (List ℕ)) (old new : Disk) (before after : Tape) (status : ℕ)
@@ -138,6 +139,16 @@ pub fn keygen_may_leave()
         → request_in words ≡ Some (Keygen q) → old.told ≡ Some t → RunsTo (plan_for words) old new before after status
         → Unchanged old.told new.told ⊎ ((key : Key) × (outcome t.holds (key_plan q) ≡ Ok key)
         × ((u : Told) × (new.told ≡ Some u) × IsLeftBy (key_file key) (t.holds q.key) (u.holds q.key))) }
+{}
+
+/// Where an `audit` that is to save evidence answers 0 or 1, or has such an ending and the sink fails, the evidence file
+/// was cut, written in its pieces and synced, whatever the files tell; the evidence is that of the report whose text is
+/// offered, and of the bytes of the answer that were read for it. Nothing else is done after that.
+pub fn audit_saves_its_evidence()
+    ensures { (words : List (List ℕ)) (q : AuditRequest) (name : List ℕ) (old new : Disk) (before after : Tape)
+        (status : ℕ) → request_in words ≡ Some (Audit q) → q.evidence ≡ Some name
+        → (run : RunsTo (plan_for words) old new before after status)
+        → Answered (λ s. (s ≡ 0) ⊎ (s ≡ 1)) run.ending status → SavesEvidence q name run.ending old new }
 {}
 
 /// Where `answer` answers 0, or has that ending and the sink fails, the answer file was cut, written and synced,

@@ -31,7 +31,7 @@ use Rattle.nr_laws_store.proofs.LogLaws.{log_takes}
 use Rattle.nr_spec_recording.specs.Records.{records_of}
 use Rattle.nr_spec_recording.specs.Events.{records_in_order, skipped, too_long}
 use Rattle.nr_spec_commands.specs.Words.{RecordRequest, Record}
-use Rattle.nr_spec_program.specs.Promises.{PromiseFile, promise_of}
+use Rattle.nr_spec_texts.specs.Promises.{PromiseFile, promise_of}
 use Rattle.nr_spec_program.specs.Keys.{key_of}
 use Rattle.nr_spec_program.specs.Command.{Ending, LogFact, MrtInput, PromiseInput, Refusal, Work, load, promise_plan, well_formed}
 use Rattle.nr_spec_program.specs.Recording.{born_plan, key_file_plan, log_network, log_plan, long_message, mrt_plan, other_network, other_root, record_plan, recorded_ending, speakers_of, turns_plan, unless, unread_log}

@@ -16,7 +16,7 @@ use Rattle.nr_spec_steps.specs.Turns.{turn}
 use Rattle.nr_spec_recording.specs.Records.{records_of}
 use Rattle.nr_spec_recording.specs.Events.{records_in_order, skipped, too_long}
 use Rattle.nr_spec_commands.specs.Words.{RecordRequest}
-use Rattle.nr_spec_program.specs.Promises.{PromiseFile, promise_of}
+use Rattle.nr_spec_texts.specs.Promises.{PromiseFile, promise_of}
 use Rattle.nr_spec_program.specs.Keys.{key_of}
 use Rattle.nr_spec_program.specs.Command.{Ending, KeySpent, LogFact, LongLog, Work, promise_plan}
 use Rattle.nr_spec_program.specs.Recording.{key_file_plan, log_network, log_plan, long_message, mrt_plan, other_network, other_root, recorded_ending, recorder_of, speakers_of, turns_for, unless}

@@ -28,7 +28,7 @@ use Rattle.nr_spec_history.specs.KeyFiles.{Key, key_root}
 use Rattle.nr_spec_recording.specs.Records.{records_of}
 use Rattle.nr_spec_recording.specs.Events.{records_in_order, skipped, too_long}
 use Rattle.nr_spec_commands.specs.Words.{RecordRequest}
-use Rattle.nr_spec_program.specs.Promises.{PromiseFile, promise_of}
+use Rattle.nr_spec_texts.specs.Promises.{PromiseFile, promise_of}
 use Rattle.nr_spec_program.specs.Keys.{key_of}
 use Rattle.nr_spec_program.specs.Command.{Ending, Input, LogFact, MrtInput, Refusal, Work, input_limit, load, promise_plan, sized, well_formed}
 use Rattle.nr_spec_program.specs.Recording.{born_plan, key_file_plan, log_network, log_plan, long_message, mrt_plan, other_network, other_root, record_plan, recorded_ending, recorder_of, speakers_of, turns_for, turns_plan, unless, unread_log, unwritten_log}

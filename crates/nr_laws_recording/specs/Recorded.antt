@@ -9,7 +9,7 @@ use Rattle.nr_spec_store.specs.StorePlans.{loading}
 use Rattle.nr_spec_store.specs.StoreCrashes.{Keeps, LoadsEntries}
 use Rattle.nr_spec_commands.specs.Words.{RecordRequest}
 use Rattle.nr_spec_program.specs.Command.{Ending, promise_plan}
-use Rattle.nr_spec_program.specs.Promises.{PromiseFile}
+use Rattle.nr_spec_texts.specs.Promises.{PromiseFile}
 use Rattle.nr_spec_program.specs.Recording.{key_file_plan, mrt_plan, recorded_ending, recorder_of, speakers_of, turns_for}
 use Rattle.nr_spec_recording.specs.Events.{skipped}
 use Rattle.nr_spec_steps.specs.Turns.{log_after}

@@ -22,7 +22,7 @@ use Rattle.nr_laws_store.proofs.LogLaws.{unborn_none}
 use Rattle.nr_spec_steps.specs.Turns.{log_after}
 use Rattle.nr_spec_commands.specs.Words.{Record, RecordRequest, Request, request_in}
 use Rattle.nr_spec_program.specs.Command.{Work, Ending}
-use Rattle.nr_spec_program.specs.Promises.{PromiseFile, numbers_in, promise_of}
+use Rattle.nr_spec_texts.specs.Promises.{PromiseFile, numbers_in, promise_of}
 use Rattle.nr_spec_program.specs.Recording.{entries_in}
 use Rattle.nr_spec_program.specs.Running.{RunsTo}
 use Rattle.nr_spec_program.specs.Table.{plan_for, plan_in, plan_of}

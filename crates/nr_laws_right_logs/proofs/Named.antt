@@ -16,7 +16,7 @@ use Rattle.nr_spec_steps.specs.Telling.{IsNamed, starts}
 use Rattle.nr_spec_recording.specs.Records.{Speaker, changed, exchanged, is_speaker, kept, kept_of, number_of, records_of}
 use Rattle.nr_spec_recording.specs.Merging.{Choice, by_least, chosen, least, merged_by}
 use Rattle.nr_spec_recording.specs.Events.{cut_by, events_of, records_in_order, turn_size, turns_of}
-use Rattle.nr_spec_program.specs.Promises.{PromiseFile, numbers_in}
+use Rattle.nr_spec_texts.specs.Promises.{PromiseFile, numbers_in}
 use Rattle.nr_spec_program.specs.Recording.{speaker_of, speakers_of, turns_for}
 use Rattle.nr_laws_right_logs.proofs.Sessions.{HasStates, file_has}
 

@@ -4,7 +4,7 @@ use Rattle.nr_spec_plans.specs.Disk.{Disk, Tape, Told, bytes_of}
 use Rattle.nr_spec_crash.specs.Crashes.{Crashes, Rests}
 use Rattle.nr_spec_counts.specs.Tallies.{Numbers}
 use Rattle.nr_spec_commands.specs.Words.{Record, RecordRequest, request_in}
-use Rattle.nr_spec_program.specs.Promises.{PromiseFile, numbers_in, promise_of}
+use Rattle.nr_spec_texts.specs.Promises.{PromiseFile, numbers_in, promise_of}
 use Rattle.nr_spec_program.specs.Running.{RunsTo}
 use Rattle.nr_spec_program.specs.Table.{plan_for}
 use Rattle.nr_laws_record.specs.Recorded.{MayRecord}

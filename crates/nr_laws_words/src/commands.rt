@@ -2,7 +2,7 @@
 
 ghost use Rattle.std.specs.Prelude.{◌≡◌, ◌↔◌, ◌∷◌, ℕ, List, Some};
 ghost use Rattle.nr_words.specs.Grammar.{Values, values_in};
-ghost use Rattle.nr_spec_commands.specs.Words.{Request, answer_grammar, audit_grammar, check_grammar, keygen_grammar, record_grammar, request_in};
+ghost use Rattle.nr_spec_commands.specs.Words.{Request, answer_grammar, audit_grammar, check_grammar, keygen_grammar, record_grammar, request_in, verify_grammar};
 ghost use Rattle.nr_laws_words.specs.Commands.{Asks};
 ghost use Rattle.nr_laws_words.specs.Pairs.{Gives};
 
@@ -24,6 +24,9 @@ pub fn words_of_commands_are_pairs()
     ensures answer { (words : List (List ℕ)) (values : Values)
         → (values_in answer_grammar (answer_grammar.command ∷ words) ≡ Some values)
         ↔ Gives answer_grammar words values }
+    ensures verify { (words : List (List ℕ)) (values : Values)
+        → (values_in verify_grammar (verify_grammar.command ∷ words) ≡ Some values)
+        ↔ Gives verify_grammar words values }
 {}
 
 /// Words ask for something exactly where they are a command word and its options with their values, which are read

@@ -17,7 +17,7 @@ use Rattle.nr_spec_steps.specs.Events.{Event}
 use Rattle.nr_spec_steps.specs.Telling.{most_raw}
 use Rattle.nr_spec_recording.specs.Records.{Speaker}
 use Rattle.nr_spec_recording.specs.Events.{events_of, raw_length, too_long, turns_of}
-use Rattle.nr_spec_program.specs.Promises.{PromiseFile}
+use Rattle.nr_spec_texts.specs.Promises.{PromiseFile}
 use Rattle.nr_spec_program.specs.Command.{Ending, Refusal, promise_plan}
 use Rattle.nr_spec_program.specs.Recording.{born_plan, entries_in, key_file_plan, log_plan, mrt_plan, record_plan, recorder_of, speakers_of, turns_for, unwritten_log}
 use Rattle.nr_recorder.specs.Kept as kept

@@ -11,7 +11,7 @@ use Rattle.nr_spec_steps.specs.Steps.{Recorder}
 use Rattle.nr_spec_recording.specs.Records.{Speaker, records_of}
 use Rattle.nr_spec_recording.specs.Events.{events_of, records_in_order, skipped, too_long, turns_of}
 use Rattle.nr_spec_commands.specs.Words.{RecordRequest}
-use Rattle.nr_spec_program.specs.Promises.{PromiseFile, numbers_in}
+use Rattle.nr_spec_texts.specs.Promises.{PromiseFile, numbers_in}
 use Rattle.nr_spec_program.specs.Command.{Ending, MrtInput, Work, load, well_formed}
 use Rattle.nr_spec_program.specs.Recording.{born_plan, log_network, long_message, other_network, other_root, recorded_ending, recorder_of, turns_plan, unless}
 

@@ -1,5 +1,5 @@
 -- What a request of the code stands for in the definitions.
-use Rattle.std.specs.Prelude.{map}
+use Rattle.std.specs.Prelude.{map, option_map}
 use Rattle.nr_spec_commands.specs.Words as words
 use Rattle.nr_evidence.specs.Views.{period_of}
 use Rattle.nr_requests.specs.declared.request.AuditRequest as declared_audit
@@ -17,6 +17,7 @@ audit_request_of q = record {
   answer = q.answer.now;
   auths = q.auths.now;
   period = period_of q.period;
+  evidence = option_map (λ s. s.now) q.evidence;
 }
 
 abbrev pub keygen_request_of : declared_keygen.KeygenRequest → words.KeygenRequest

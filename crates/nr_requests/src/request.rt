@@ -1,9 +1,9 @@
 //! The commands: which words each takes, and what they ask for.
 
-ghost use Rattle.std.specs.Prelude.{◌≡◌, map, option_map, IfOk};
+ghost use Rattle.std.specs.Prelude.{◌≡◌, ◌∷◌, map, option_map, IfOk};
 ghost use Rattle.std.specs.String.{string_bytes};
 ghost use Rattle.nr_words.specs.Views.{given_by};
-ghost use Rattle.nr_spec_commands.specs.Words.{answer_request, audit_in, audit_request, check_in, check_request, keygen_in, keygen_request, record_request, request_in};
+ghost use Rattle.nr_spec_commands.specs.Words.{are_apart, named, answer_request, audit_in, audit_request, check_in, check_request, keygen_in, keygen_request, record_request, request_in};
 ghost use Rattle.nr_requests.specs.Views.{audit_request_of, check_request_of, keygen_request_of, request_of};
 
 use crate::answer_request::{ANSWER, AnswerRequest, answer_from};
@@ -45,6 +45,10 @@ const AUDIT: Grammar = Grammar {
             name: "to",
             required: true,
         },
+        OptionRule {
+            name: "evidence",
+            required: false,
+        },
     ],
     files: false,
 };
@@ -85,7 +89,8 @@ const MOST_ASN: u64 = 4_294_967_295;
 
 const MOST_HEIGHT: u64 = 16;
 
-/// What `audit` is asked for: the root of the audited network, the names of three files, and a period.
+/// What `audit` is asked for: the root of the audited network, the names of three files, a period, and the name of the
+/// evidence file, if one is given.
 #[derive(Clone, Copy, Debug)]
 pub struct AuditRequest<'a> {
     pub root: Digest,
@@ -93,6 +98,7 @@ pub struct AuditRequest<'a> {
     pub answer: &'a str,
     pub auths: &'a str,
     pub period: Period,
+    pub evidence: Option<&'a str>,
 }
 
 /// What `check` is asked for: the name of a promise file.
@@ -111,6 +117,19 @@ pub enum Request<'a> {
     Answer(AnswerRequest<'a>),
 }
 
+// Whether no two names of an audit are equal.
+fn are_names_apart(promise: &str, answer: &str, auths: &str, evidence: Option<&str>) -> bool
+    ensures { result ≡ are_apart (promise.now ∷ answer.now ∷ auths.now ∷ named (option_map (λ s. s.now) evidence.entry)) }
+{
+    match evidence {
+        None => !(promise == answer || promise == auths) && answer != auths,
+        Some(name) => {
+            !(promise == answer || (promise == auths || promise == name))
+                && (!(answer == auths || answer == name) && auths != name)
+        }
+    }
+}
+
 #[tactic(auto, unfolding(nr_spec_commands::specs::Words::audit_in))]
 fn audit_from<'a>(values: &Values<'a>) -> Option<AuditRequest<'a>>
     ensures { option_map audit_request_of result ≡ audit_in (given_by values.now) }
@@ -125,7 +144,8 @@ fn audit_from<'a>(values: &Values<'a>) -> Option<AuditRequest<'a>>
     let from = number_of(from_word)?;
     let to = number_of(to_word)?;
     let period = period_from(from, to)?;
-    if promise == answer || promise == auths || answer == auths {
+    let evidence = value_of(values, 6);
+    if !are_names_apart(promise, answer, auths, evidence) {
         return None;
     }
     Some(AuditRequest {
@@ -134,6 +154,7 @@ fn audit_from<'a>(values: &Values<'a>) -> Option<AuditRequest<'a>>
         answer,
         auths,
         period,
+        evidence,
     })
 }
 

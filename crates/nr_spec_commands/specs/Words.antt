@@ -1,5 +1,5 @@
 -- The words of the command line: which lists of words are taken, and what they ask for.
-use Rattle.std.specs.Prelude.{ℕ, Bool, true, false, ◌&&◌, ◌||◌, not, nat_le, if◌then◌else◌, List, [], ◌∷◌, length, slice_get, Option, None, Some, codes, option_map}
+use Rattle.std.specs.Prelude.{ℕ, Bool, true, false, ◌&&◌, not, nat_le, if◌then◌else◌, List, [], ◌∷◌, length, slice_get, Option, None, Some, codes, option_map}
 use Rattle.std.specs.List.{list_any}
 use Rattle.std.specs.Result.{result_ok}
 use Rattle.std.specs.Str.{bytes_eq, all_ascii_digits}
@@ -47,23 +47,39 @@ value_at values at = slice_get values.options at >>= λ value. value
 abbrev pub required : List ℕ → OptionRule
 required name = record { name = name; required = true }
 
--- `audit --root HEX --promise F --answer F --auths F --from N --to N`
+-- the option `--NAME VALUE`, which may be given
+abbrev pub optional : List ℕ → OptionRule
+optional name = record { name = name; required = false }
+
+-- no two of these names are equal
+abbrev pub are_apart : List (List ℕ) → Bool
+are_apart [] = true
+are_apart (name ∷ others) = not (list_any (bytes_eq name) others) && are_apart others
+
+-- the name that an option gives, where it is given
+abbrev pub named : Option (List ℕ) → List (List ℕ)
+named None = []
+named (Some name) = name ∷ []
+
+-- `audit --root HEX --promise F --answer F --auths F --from N --to N [--evidence F]`
 abbrev pub audit_grammar : Grammar
 audit_grammar = record {
   command = codes "audit";
   options =
       required (codes "root") ∷ required (codes "promise") ∷ required (codes "answer") ∷ required (codes "auths")
-      ∷ required (codes "from") ∷ required (codes "to") ∷ [];
+      ∷ required (codes "from") ∷ required (codes "to") ∷ optional (codes "evidence") ∷ [];
   files = false;
 }
 
--- what `audit` is asked for: the root of the audited network, the names of three files, and a period
+-- what `audit` is asked for: the root of the audited network, the names of three files, a period, and the name of the
+-- evidence file, if one is given
 pub record AuditRequest : Type 0 where
   pub root : List ℕ
   pub promise : List ℕ
   pub answer : List ℕ
   pub auths : List ℕ
   pub period : Period
+  pub evidence : Option (List ℕ)
 
 -- Two equal file words aren't taken, nor is a period that runs back.
 unfoldable pub audit_in : Values → Option AuditRequest
@@ -78,9 +94,16 @@ audit_in values = do
   from ← number_in from_word
   to ← number_in to_word
   period ← period_between from to
-  if bytes_eq promise answer || (bytes_eq promise auths || bytes_eq answer auths)
-      then None
-      else Some (record { root = root; promise = promise; answer = answer; auths = auths; period = period })
+  if are_apart (promise ∷ answer ∷ auths ∷ named (value_at values 6))
+      then Some (record {
+        root = root;
+        promise = promise;
+        answer = answer;
+        auths = auths;
+        period = period;
+        evidence = value_at values 6;
+      })
+      else None
 
 -- `keygen --as N --height N --seed F --key F`
 abbrev pub keygen_grammar : Grammar
@@ -126,15 +149,6 @@ unfoldable pub check_in : Values → Option CheckRequest
 check_in values = do
   promise ← value_at values 0
   Some (record { promise = promise })
-
--- the option `--NAME VALUE`, which may be given
-abbrev pub optional : List ℕ → OptionRule
-optional name = record { name = name; required = false }
-
--- no two of these names are equal
-abbrev pub are_apart : List (List ℕ) → Bool
-are_apart [] = true
-are_apart (name ∷ others) = not (list_any (bytes_eq name) others) && are_apart others
 
 -- `record --promise F --key F --log F [--until N] [MRT files]`
 abbrev pub record_grammar : Grammar
@@ -192,6 +206,26 @@ answer_in values = do
   out ← value_at values 2
   if are_apart (key ∷ log ∷ out ∷ []) then Some (record { key = key; log = log; out = out }) else None
 
+-- `verify --root HEX --evidence F`
+abbrev pub verify_grammar : Grammar
+verify_grammar = record {
+  command = codes "verify";
+  options = required (codes "root") ∷ required (codes "evidence") ∷ [];
+  files = false;
+}
+
+-- what `verify` is asked for: the root of a network's key, and the name of a file of evidence
+pub record VerifyRequest : Type 0 where
+  pub root : List ℕ
+  pub evidence : List ℕ
+
+unfoldable pub verify_in : Values → Option VerifyRequest
+verify_in values = do
+  root_word ← value_at values 0
+  evidence ← value_at values 1
+  root ← root_in root_word
+  Some (record { root = root; evidence = evidence })
+
 -- ---- the table of commands
 
 pub data Request : Type 0 where
@@ -200,6 +234,7 @@ pub data Request : Type 0 where
   Check : (check : CheckRequest) → Request
   Record : (recording : RecordRequest) → Request
   Answer : (answer : AnswerRequest) → Request
+  Verify : (verifying : VerifyRequest) → Request
 
 abbrev pub audit_request : List (List ℕ) → Option Request
 audit_request words = values_in audit_grammar words >>= λ values. audit_in values >>= λ audit. Some (Audit audit)
@@ -217,6 +252,10 @@ record_request words =
 abbrev pub answer_request : List (List ℕ) → Option Request
 answer_request words = values_in answer_grammar words >>= λ values. answer_in values >>= λ answer. Some (Answer answer)
 
+abbrev pub verify_request : List (List ℕ) → Option Request
+verify_request words =
+    values_in verify_grammar words >>= λ values. verify_in values >>= λ verifying. Some (Verify verifying)
+
 -- what the words ask for, by the command word, which stands first
 unfoldable pub request_in : List (List ℕ) → Option Request
 request_in [] = None
@@ -226,4 +265,5 @@ request_in (command ∷ words) =
     else if bytes_eq command (codes "check") then check_request (command ∷ words)
     else if bytes_eq command (codes "record") then record_request (command ∷ words)
     else if bytes_eq command (codes "answer") then answer_request (command ∷ words)
+    else if bytes_eq command (codes "verify") then verify_request (command ∷ words)
     else None

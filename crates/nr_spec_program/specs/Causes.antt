@@ -1,18 +1,22 @@
 -- What a run's status and ending say of the words, of the counts of faults and of the files.
 use Rattle.std.specs.Prelude.{◌≡◌, ◌≢◌, ◌⊎◌, ℕ, ◌≤◌, ◌-◌, Bool, false, true, if◌then◌else◌, List, [], ◌∷◌, ◌++◌, Option, None, Some, Result, Ok, Err, option_map, take}
 use Rattle.nr_spec_history.specs.KeyFiles.{Key, key_file}
-use Rattle.nr_spec_log.specs.Authenticator.{Authenticator}
-use Rattle.nr_spec_log.specs.Answer.{AnswerFile}
+use Rattle.nr_spec_log.specs.Authenticator.{Authenticator, auths_of}
+use Rattle.nr_spec_log.specs.Answer.{AnswerFile, answer_of}
 use Rattle.nr_spec_store.specs.LogFile.{LogFile}
 use Rattle.nr_spec_plans.specs.Disk.{Contents, Disk, Tape, Fault, Memory, Cuts, Writes, Syncs, more}
-use Rattle.nr_spec_plans.specs.Plans.{Action, Done, Ask, Read, Cut, Write, Sync, Halt, Refused, Faulted, Runs}
+use Rattle.nr_spec_plans.specs.Plans.{Action, Done, Ask, Read, Cut, Write, Sync, Halt, Refused, Faulted, Room, Runs, ◌>>=◌}
 use Rattle.nr_spec_plans.specs.Laws.{IsAmong, IsRead, Unchanged, fault_in, outcome, reads_after, writes_after}
 use Rattle.nr_spec_plans.specs.Steps.{OnlyBy}
-use Rattle.nr_spec_commands.specs.Words.{Request, KeygenRequest, Audit, Keygen, Check, Record, Answer}
-use Rattle.nr_spec_program.specs.Promises.{PromiseFile}
+use Rattle.nr_spec_outcome.specs.Report.{Report}
+use Rattle.nr_spec_saving.specs.Saving.{PartsSaved, evidence_parts}
+use Rattle.nr_spec_commands.specs.Words.{named, Request, AuditRequest, KeygenRequest, Audit, Keygen, Check, Record, Answer, Verify}
+use Rattle.nr_spec_texts.specs.Promises.{PromiseFile}
 use Rattle.nr_spec_program.specs.Command as command
-use Rattle.nr_spec_program.specs.Command.{Input, PromiseInput, AnswerInput, AuthsInput, KeyInput, LogInput, MrtInput, LogFact, KeySpent, LongLog, NoFile, Limit, Malformed, Prevented, Work, Ending, Refusal, refusal_ending, fault_ending, key_ending, promise_ending, key_plan, judged}
+use Rattle.nr_spec_program.specs.Command.{Input, PromiseInput, AnswerInput, AuthsInput, KeyInput, LogInput, MrtInput, LogFact, KeySpent, LongEvidence, LongLog, NoFile, Limit, Malformed, Prevented, Work, Ending, Refusal, refusal_ending, fault_ending, key_ending, promise_ending, promise_plan, key_plan, load, well_formed, judged, audit_ending, evidence_of_report}
 use Rattle.nr_spec_program.specs.Recording.{answered_ending, recorded_ending}
+use Rattle.nr_spec_program.specs.Verifying.{verified_ending}
+use Rattle.nr_spec_verify.specs.Verified.{verified}
 
 -- ---- counts
 
@@ -33,16 +37,18 @@ pub record NoneRose (old new : Disk) (before after : Tape) : Type 0 where
 
 -- ---- what ended the work
 
--- The endings of a request that nothing stopped. That of an audit is what an answer and authenticators show by a promise
--- file.
+-- The endings of a request that nothing stopped. That of an audit tells what an answer and authenticators show by a
+-- promise file.
 abbrev pub EndOf : Request → Ending → Type 0
 EndOf (Audit q) e =
-    (promise : PromiseFile) × (answer : AnswerFile) × (auths : List Authenticator)
-    × (judged q.root promise answer q.period auths ≡ Done e)
+    (promise : PromiseFile) × (answer : AnswerFile) × (auths : List Authenticator) × (report : Report)
+    × (judged q.root promise answer q.period auths ≡ Done report) × (e ≡ audit_ending promise report)
 EndOf (Keygen q) e = (key : Key) × (e ≡ key_ending key)
 EndOf (Check q) e = (promise : PromiseFile) × (e ≡ promise_ending promise)
 EndOf (Record q) e = (before after : LogFile) × ((skips : ℕ) × (e ≡ recorded_ending before after skips))
 EndOf (Answer q) e = (answer : AnswerFile) × (e ≡ answered_ending answer)
+EndOf (Verify q) e =
+    (bytes : List ℕ) × (claims : List Bool) × (verified q.root bytes ≡ Ok claims) × (e ≡ verified_ending claims)
 
 -- The words ask for a request, whose plan gave an ending of this status.
 pub record GaveEnding (request : Option Request) (result : Result Ending (Halt Refusal)) (status : ℕ) : Type 0 where
@@ -101,6 +107,7 @@ read_names (Keygen q) = q.seed ∷ []
 read_names (Check q) = q.promise ∷ []
 read_names (Record q) = q.promise ∷ q.key ∷ (q.files ++ q.log ∷ [])
 read_names (Answer q) = q.key ∷ q.log ∷ []
+read_names (Verify q) = q.evidence ∷ []
 
 -- the log of a request, which is synced before it is read
 abbrev pub log_names : Request → List (List ℕ)
@@ -109,14 +116,16 @@ log_names (Keygen q) = []
 log_names (Check q) = []
 log_names (Record q) = q.log ∷ []
 log_names (Answer q) = q.log ∷ []
+log_names (Verify q) = []
 
 -- the files that a request may write
 abbrev pub written_names : Request → List (List ℕ)
-written_names (Audit q) = []
+written_names (Audit q) = named q.evidence
 written_names (Keygen q) = q.key ∷ []
 written_names (Check q) = []
 written_names (Record q) = q.log ∷ []
 written_names (Answer q) = q.out ∷ []
+written_names (Verify q) = []
 
 -- the same of the words; those that aren't taken name no file
 abbrev pub read_in : Option Request → List (List ℕ)
@@ -156,6 +165,7 @@ names_before (Record q) LogInput = q.promise ∷ q.key ∷ q.files
 names_before (Record q) input = []
 names_before (Answer q) LogInput = q.key ∷ []
 names_before (Answer q) input = []
+names_before (Verify q) input = []
 
 -- the same with this one
 abbrev pub names_until : Request → Input → List (List ℕ)
@@ -172,6 +182,7 @@ names_until (Record q) LogInput = q.promise ∷ q.key ∷ (q.files ++ q.log ∷ 
 names_until (Record q) input = []
 names_until (Answer q) LogInput = q.key ∷ q.log ∷ []
 names_until (Answer q) input = q.key ∷ []
+names_until (Verify q) input = q.evidence ∷ []
 
 -- The files that were asked for where this refuses: none after the refused one.
 abbrev pub names_asked : Request → Refusal → List (List ℕ)
@@ -180,6 +191,7 @@ names_asked request (Limit input found) = names_until request input
 names_asked request (Malformed input place) = names_until request input
 names_asked request (command.Refused fact) = read_names request
 names_asked request (Prevented fact) = read_names request
+names_asked request (LongEvidence found) = read_names request
 
 -- The files that were read: not one that is absent or past its limit.
 abbrev pub names_read : Request → Refusal → List (List ℕ)
@@ -188,6 +200,7 @@ names_read request (Limit input found) = names_before request input
 names_read request (Malformed input place) = names_until request input
 names_read request (command.Refused fact) = read_names request
 names_read request (Prevented fact) = read_names request
+names_read request (LongEvidence found) = read_names request
 
 -- The log that was synced: none that is absent or past its limit, and none where a file before it is refused.
 abbrev pub names_synced : Request → Refusal → List (List ℕ)
@@ -232,7 +245,7 @@ Answered P e status = P status ⊎ P e.status
 
 -- the statuses with which nothing was written
 abbrev pub WroteNothing : ℕ → Type 0
-WroteNothing status = (status ≢ 0) × (status ≢ 5) × (status ≢ 6)
+WroteNothing status = (status ≢ 0) × (status ≢ 1) × (status ≢ 5) × (status ≢ 6)
 
 -- the ending of a value, or of a refusal
 abbrev pub ended : Result Ending Refusal → Ending
@@ -287,3 +300,32 @@ pub record SavesKey (q : KeygenRequest) (old new : Disk) : Type 0 where
   pub cuts : Cuts q.key 0 read cut (Ok tt)
   pub writes : Writes q.key 0 (key_file key) cut wrote (Ok tt)
   pub syncs : Syncs q.key wrote new (Ok tt)
+
+-- what an audit has of its files before it writes: what the promise file says, the bytes of the answer, and the report
+-- on that answer
+pub record Reported : Type 0 where
+  pub promise : PromiseFile
+  pub answer : List ℕ
+  pub report : Report
+
+-- the first part of `audit`, before anything is written
+unfoldable pub reported_plan : AuditRequest → Work Reported
+reported_plan q = do
+  promise ← promise_plan q.promise
+  answer_bytes ← load AnswerInput q.answer
+  answer ← well_formed AnswerInput (answer_of answer_bytes)
+  auths_bytes ← load AuthsInput q.auths
+  auths ← well_formed AuthsInput (auths_of auths_bytes)
+  report ← Room (judged q.root promise answer q.period auths)
+  Done (record { promise = promise; answer = answer_bytes; report = report })
+
+-- A report was got from the three files, and after that the evidence file was cut to nothing, the pieces of the
+-- report's evidence were written one behind another, and the file was synced, and each of these went well. What is then
+-- offered to the sink is the text of the report.
+pub record SavesEvidence (q : AuditRequest) (name : List ℕ) (e : Ending) (old new : Disk) : Type 0 where
+  pub reported : Reported
+  pub read : Disk
+  pub gets : Runs (reported_plan q) old read (Ok reported)
+  pub saves : PartsSaved name
+      (evidence_parts (evidence_of_report reported.answer reported.promise q.period reported.report)) read new
+  pub offers : e ≡ audit_ending reported.promise reported.report

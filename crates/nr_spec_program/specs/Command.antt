@@ -12,14 +12,16 @@ use Rattle.nr_spec_steps.specs.Steps.{Spent}
 use Rattle.nr_spec_steps.specs.Telling.{most_raw}
 use Rattle.nr_spec_store.specs.LogFile.{most_log}
 use Rattle.nr_spec_report.specs.Claims.{Claim}
+use Rattle.nr_spec_evidence.specs.Evidence.{EvidenceFile, most_evidence}
+use Rattle.nr_spec_saving.specs.Saving.{TooLong, save_evidence}
 use Rattle.nr_spec_outcome.specs.Report.{Report, claims_of}
 use Rattle.nr_spec_outcome.specs.Lines.{report_text}
 use Rattle.nr_spec_outcome.specs.Outcome.{Fact, Form, Network, Unsigned, Head, Short, Promise, outcome, promise_files}
 use Rattle.nr_spec_promises.specs.Files as files
 use Rattle.nr_spec_truth.specs.Truths.{meant}
 use Rattle.nr_spec_plans.specs.Disk.{Fault, ReadFault, WriteFault, Memory}
-use Rattle.nr_spec_plans.specs.Plans.{Plan, Done, Refuse, Room, act, want, Ask, Read, save, ◌>>=◌}
-use Rattle.nr_spec_program.specs.Promises.{PromiseFile, promise_of, audited_by}
+use Rattle.nr_spec_plans.specs.Plans.{Plan, Done, Refuse, Room, act, refusing, want, Ask, Read, save, ◌>>=◌}
+use Rattle.nr_spec_texts.specs.Promises.{PromiseFile, promise_of, audited_by}
 use Rattle.nr_spec_commands.specs.Words.{AuditRequest, CheckRequest, KeygenRequest}
 
 -- ---- input files
@@ -31,6 +33,7 @@ pub data Input : Type 0 where
   SeedInput : Input
   KeyInput : Input
   LogInput : Input
+  EvidenceInput : Input
   -- the MRT files, numbered from 1
   MrtInput : (number : ℕ) → Input
 
@@ -42,6 +45,7 @@ input_name AuthsInput = codes "auths"
 input_name SeedInput = codes "seed"
 input_name KeyInput = codes "key"
 input_name LogInput = codes "log"
+input_name EvidenceInput = codes "evidence"
 input_name (MrtInput number) = codes "mrt" ++ decimal number
 
 -- its greatest size in bytes
@@ -52,6 +56,7 @@ input_limit AuthsInput = 1073741824
 input_limit SeedInput = 1048576
 input_limit KeyInput = 1048576
 input_limit LogInput = most_log
+input_limit EvidenceInput = most_evidence
 input_limit (MrtInput number) = 2147483647
 
 -- ---- refusals
@@ -80,10 +85,12 @@ pub data Refusal : Type 0 where
   Limit : (input : Input) (found : ℕ) → Refusal
   -- the file isn't in its grammar; the place of the first malformed field
   Malformed : (input : Input) (place : ℕ) → Refusal
-  -- what the files say refuses the audit
+  -- what the files say refuses the audit, or the evidence
   Refused : (fact : Fact) → Refusal
   -- what the files say refuses the recording, or the answer
   Prevented : (fact : LogFact) → Refusal
+  -- the evidence would be longer than it may be
+  LongEvidence : (found : ℕ) → Refusal
 
 -- ---- reading input files
 
@@ -151,6 +158,12 @@ refusal_ending (Malformed input place) =
     record { status = 3; text = line (codes "malformed" ∷ input_name input ∷ decimal place ∷ []) }
 refusal_ending (Refused fact) = record { status = 7; text = line (codes "refused" ∷ fact_words fact) }
 refusal_ending (Prevented fact) = record { status = 7; text = line (codes "refused" ∷ log_fact_words fact) }
+refusal_ending (LongEvidence found) =
+    record {
+      status = 7;
+      text = line (codes "refused" ∷ codes "limit" ∷ input_name EvidenceInput
+          ∷ decimal found ∷ decimal (input_limit EvidenceInput) ∷ []);
+    }
 
 -- 1 where something is claimed
 abbrev pub report_status : List Claim → ℕ
@@ -169,16 +182,38 @@ key_ending key = record { status = 0; text = line (codes "root" ∷ encode_lower
 unfoldable pub promise_ending : PromiseFile → Ending
 promise_ending promise = record { status = 0; text = file_text promise.file }
 
--- the report by these promise files, where no fact refuses the audit
-abbrev pub concluded : List files.PromiseFile → Result Report Fact → Work Ending
-concluded promises (Ok report) = Done (report_ending promises report)
-concluded promises (Err fact) = Refuse (Refused fact)
+-- the report, where no fact refuses the audit
+abbrev pub concluded : Result Report Fact → Work Report
+concluded (Ok report) = Done report
+concluded (Err fact) = Refuse (Refused fact)
 
 -- what an answer shows by a promise file, whose formulas are true where they hold
-abbrev pub judged : List ℕ → PromiseFile → AnswerFile → Period → List Authenticator → Work Ending
+abbrev pub judged : List ℕ → PromiseFile → AnswerFile → Period → List Authenticator → Work Report
 judged root promise answer period auths =
-    concluded (promise_files (audited_by promise ∷ []))
-    (outcome root (audited_by promise ∷ []) (meant (promise.says ∷ [])) answer period auths)
+    concluded (outcome root (audited_by promise ∷ []) (meant (promise.says ∷ [])) answer period auths)
+
+-- how an audit by a promise file ends that gave a report
+abbrev pub audit_ending : PromiseFile → Report → Ending
+audit_ending promise report = report_ending (promise_files (audited_by promise ∷ [])) report
+
+-- ---- evidence
+
+-- the evidence of a report on an answer of these bytes
+abbrev pub evidence_of_report : (answer : List ℕ) → PromiseFile → Period → Report → EvidenceFile
+evidence_of_report answer promise period report = record {
+  answer = answer;
+  promise = promise.text;
+  period = period;
+  claims = claims_of report;
+}
+
+abbrev pub long_evidence : TooLong → Refusal
+long_evidence size = LongEvidence size.found
+
+-- the evidence, where it is asked for
+unfoldable pub evidence_plan : (name : Option (List ℕ)) → EvidenceFile → Work (Unit {0})
+evidence_plan None e = Done tt
+evidence_plan (Some name) e = refusing long_evidence (save_evidence name e)
 
 abbrev pub usage_ending : Ending
 usage_ending = record { status = 2; text = line (codes "usage" ∷ []) }
@@ -214,7 +249,7 @@ check_plan q = do
   Done (promise_ending promise)
 
 -- The report on an answer, by one promise file, or the first thing that refuses it. No file is asked for after one that
--- is refused.
+-- is refused. The evidence is written and synced, where it is asked for, before the text is offered.
 unfoldable pub audit_plan : AuditRequest → Work Ending
 audit_plan q = do
   promise ← promise_plan q.promise
@@ -222,7 +257,10 @@ audit_plan q = do
   answer ← well_formed AnswerInput (answer_of answer_bytes)
   auths_bytes ← load AuthsInput q.auths
   auths ← well_formed AuthsInput (auths_of auths_bytes)
-  Room (judged q.root promise answer q.period auths)
+  report ← Room (judged q.root promise answer q.period auths)
+  room ← want
+  saved ← evidence_plan q.evidence (evidence_of_report answer_bytes promise q.period report)
+  Done (audit_ending promise report)
 
 -- the key that is asked for, by the seed file
 unfoldable pub key_plan : KeygenRequest → Work Key

@@ -1,7 +1,7 @@
-pub mod Promises
 pub mod Keys
 pub mod Command
 pub mod Recording
+pub mod Verifying
 pub mod Table
 pub mod Running
 pub mod Causes

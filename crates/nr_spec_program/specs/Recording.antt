@@ -19,7 +19,7 @@ use Rattle.nr_spec_steps.specs.Heads.{whole_answer}
 use Rattle.nr_spec_recording.specs.Records.{Speaker, records_of}
 use Rattle.nr_spec_recording.specs.Events.{events_of, records_in_order, skipped, too_long, turns_of}
 use Rattle.nr_spec_commands.specs.Words.{AnswerRequest, RecordRequest}
-use Rattle.nr_spec_program.specs.Promises.{PromiseFile, numbers_in}
+use Rattle.nr_spec_texts.specs.Promises.{PromiseFile, numbers_in}
 use Rattle.nr_spec_program.specs.Keys.{key_of}
 use Rattle.nr_spec_program.specs.Command.{Ending, KeyInput, Limit, LogFact, LogInput, LongAnswer, LongLog, LongMessage, KeySpent, Malformed, MrtInput, NoFile, OtherNetwork, OtherRoot, AnswerInput, Prevented, Refusal, Unsealed, Work, input_limit, load, promise_plan, well_formed}
 

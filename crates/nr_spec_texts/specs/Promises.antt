@@ -9,6 +9,7 @@ use Rattle.nr_spec_counts.specs.Tallies.{Numbers}
 use Rattle.nr_spec_outcome.specs.Outcome.{Audited}
 
 pub record PromiseFile : Type 0 where
+  pub text : List ℕ
   -- the SHA-256 of its text
   pub digest : List ℕ
   -- the tree of its text
@@ -22,7 +23,7 @@ unfoldable pub promise_of : List ℕ → Result PromiseFile ℕ
 promise_of text = do
   file ← file_of text
   says ← typed_text file
-  Ok (record { digest = sha256 text; file = file; says = says })
+  Ok (record { text = text; digest = sha256 text; file = file; says = says })
 
 -- what a PROMISE of it has: its digest, how many neighbours it declares, and its commit delay in seconds
 abbrev pub numbers_in : PromiseFile → Numbers
