@@ -1,0 +1,7 @@
+//! The law that ties auditor and verifier: evidence of a report is read as what it was written from, and a verifier
+//! accepts every claim in it. The functions have no code of their own: each is a theorem, which its contract states.
+#![tactic(auto)]
+
+mod audits;
+
+pub use audits::claims_of_a_report_fit;
