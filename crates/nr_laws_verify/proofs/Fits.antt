@@ -29,6 +29,7 @@ use Rattle.nr_spec_outcome.specs.Outcome.{Audited, Fact, Form, Head, Short, Unsi
 use Rattle.nr_spec_evidence.specs.Evidence.{IsClaim, most_cause}
 use Rattle.nr_spec_texts.specs.Promises.{PromiseFile, audited_by}
 use Rattle.nr_laws_verify.specs.Audits.{Audit, HasBytes, Reports}
+use Rattle.nr_laws_verify.proofs.Given.{given}
 use Rattle.nr_laws_verify.proofs.Each.{each_appended, each_filtered, each_flat, each_mapped, each_weaker}
 use Rattle.nr_laws_verify.proofs.Stated.{answer_stated}
 use Rattle.nr_laws_verify.proofs.Named.{IsSaid, SaysWhatIsDeclared, promise_said}
@@ -116,33 +117,6 @@ broken_fit f truth base period entries from to stated few cidrs =
     (each_weaker (λ (k : Key). AllByRecursion FitsRun (broken_at fs truth ms period.to k)) IsOurs (at_fits fs truth ms period.to to (marks fs base period entries from stated)) keys
     (ours (prefixes_over fs base period entries) f cidrs few))
 
--- ---- what an audit gives is the report
-
-past_fact : (fact : Option Fact) (x : Result Report Fact) (r : Report) → refused_by fact x ≡ Ok r → x ≡ Ok r
-past_fact (Some f) x r e = absurd cc
-past_fact None x r e = e
-
-past_test : (test : Bool) (fact : Fact) (x : Result Report Fact) (r : Report) → holds_or test fact x ≡ Ok r → x ≡ Ok r
-past_test true fact x r e = e
-past_test false fact x r e = absurd cc
-
-abbrev good : Report → Result Report Fact
-good r = Ok r
-
-ok_is : (x r : Report) → good x ≡ good r → x ≡ r
-ok_is x r e = cc
-
-given : (root : List ℕ) (audited : List Audited) (truth : Truth) (answer : AnswerFile) (period : Period) (auths : List Authenticator) (r : Report)
-    → outcome root audited truth answer period auths ≡ Ok r → report_of root audited truth nothing_before answer period auths ≡ r
-unfolding outcome outcome_over
-given root audited truth answer period auths r e =
-    ok_is _ r (past_fact (promise_fact (numbers_of_all audited) (digests_in_force nothing_before period answer.entries)) _ r
-    (past_test (not (nat_le answer.head.time period.to)) (Short answer.head.time period.to) _ r
-    (past_test (bytes_eq answer.head.hash (answer_value answer)) (Head answer.head.hash (answer_value answer)) _ r
-    (past_test (is_signed root answer.head) Unsigned _ r
-    (past_fact (network_fact answer.asn audited) _ r
-    (past_test (answer.first == 1) Form _ r e))))))
-
 -- ---- all of them
 
 report_fits : (root : List ℕ) (promise : PromiseFile) (truth : Truth) (answer : AnswerFile) (period : Period) (auths : List Authenticator)
@@ -171,5 +145,5 @@ claims_fit answers auths says audit report has r =
     let a = answers audit.answer r.answer has.answer r.answer_reads in
     let s = auths audit.auths r.auths has.auths r.auths_read in
     let stated = answer_stated audit.answer r.answer has.answer a in
-    subst (λ (x : Report). AllByRecursion IsClaim (claims_of x)) (given audit.root _ (meant (r.promise.says ∷ [])) r.answer audit.period r.auths report r.outcome_is)
+    subst (λ (x : Report). AllByRecursion IsClaim (claims_of x)) (given audit.root (audited_by r.promise ∷ []) (meant (r.promise.says ∷ [])) r.answer audit.period r.auths [] report r.outcome_is).0
     (report_fits audit.root r.promise (meant (r.promise.says ∷ [])) r.answer audit.period r.auths (promise_said says audit.promise r.promise r.promise_reads) a.0 stated s.0 has.from has.to)

@@ -4,4 +4,6 @@
 
 mod audits;
 
-pub use audits::claims_of_a_report_fit;
+pub use audits::{
+    claims_of_a_report_fit, evidence_of_an_audit_reads_back, the_verifier_accepts_an_audit,
+};
