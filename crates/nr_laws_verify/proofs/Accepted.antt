@@ -1,46 +1,40 @@
 -- What a verifier answers, step by step.
-use Rattle.std.proofs.Common.{◌≡◌, ◌↔◌, ℕ, ◌≤◌, Bool, true, false, cond, nat_le, List, [], ◌∷◌, map, Result, Ok, Err, refl, sym, ap, subst, ◌∙◌, arith}
-use Rattle.std.specs.List.{AllZip}
+use Rattle.std.proofs.Common.{◌≡◌, ℕ, ◌≤◌, Bool, true, false, cond, nat_le, List, [], ◌∷◌, map, Result, Ok, Err, refl, ap, ◌∙◌}
 use Rattle.std.proofs.lemmas.Bool.{le-leb, leb-true}
 use Rattle.nr_spec_wire.specs.Reading.{◌>>=◌}
 use Rattle.nr_spec_log.specs.Authenticator.{Authenticator}
 use Rattle.nr_spec_log.specs.Answer.{AnswerFile, answer_of}
 use Rattle.nr_spec_history.specs.Conflicts.{Period}
 use Rattle.nr_spec_truth.specs.Truths.{Truth, meant}
-use Rattle.nr_spec_report.specs.Wrong.{Base, nothing_before}
 use Rattle.nr_spec_report.specs.Claims.{Claim}
 use Rattle.nr_spec_outcome.specs.Report.{Report, claims_of}
-use Rattle.nr_spec_outcome.specs.Outcome.{Audited, Fact, outcome, report_of}
-use Rattle.nr_spec_claims.specs.Claims.{in_place, is_true_claim, judged}
+use Rattle.nr_spec_outcome.specs.Outcome.{Audited, Fact, outcome}
+use Rattle.nr_spec_claims.specs.Claims.{judged}
 use Rattle.nr_spec_evidence.specs.Evidence.{EvidenceFile, answer_offset, evidence_file, evidence_of, promise_offset, to_offset}
 use Rattle.nr_spec_texts.specs.Promises.{PromiseFile, audited_by, promise_of}
 use Rattle.nr_spec_verify.specs.Verified.{Malformed, Refusal, by_facts, ordered, read_from, verified}
-use Rattle.nr_laws_promises.specs.BrokenRows.{IsOneOf}
-use Rattle.nr_laws_claims.specs.Alone.{alone}
 use Rattle.nr_laws_verify.specs.Audits.{Audit, HasBytes, HasRoom, Reports, evidence_of_report}
-use Rattle.nr_laws_verify.specs.Verdicts.{AreVerdicts, GivesReport, IsVerdict}
-use Rattle.nr_laws_verify.proofs.Given.{given}
 
 -- ---- steps that go well
 
-abbrev fine : {A E : Type 0} → A → Result A E
+abbrev pub fine : {A E : Type 0} → A → Result A E
 fine x = Ok x
 
-ok_same : {A E : Type 0} (x y : A) → fine {E = E} x ≡ fine y → x ≡ y
+pub ok_same : {A E : Type 0} (x y : A) → fine {E = E} x ≡ fine y → x ≡ y
 ok_same x y e = cc
 
 goes_on : {A B E : Type 0} (r : Result A E) (x : A) (f : A → Result B E) (y : Result B E) → r ≡ Ok x → f x ≡ y → (r >>= f) ≡ y
 goes_on r x f y e h = ap (λ (s : Result _ _). s >>= f) e ∙ h
 
-went_on : {A B E : Type 0} (r : Result A E) (f : A → Result B E) (y : B) → (r >>= f) ≡ Ok y → (x : A) × (r ≡ Ok x) × (f x ≡ Ok y)
+pub went_on : {A B E : Type 0} (r : Result A E) (f : A → Result B E) (y : B) → (r >>= f) ≡ Ok y → (x : A) × (r ≡ Ok x) × (f x ≡ Ok y)
 went_on (Ok x) f y e = (x, refl, e)
 went_on (Err fault) f y e = absurd cc
 
-was_read : {A : Type 0} (offset : ℕ) (r : Result A ℕ) (x : A) → read_from offset r ≡ Ok x → r ≡ Ok x
+pub was_read : {A : Type 0} (offset : ℕ) (r : Result A ℕ) (x : A) → read_from offset r ≡ Ok x → r ≡ Ok x
 was_read offset (Ok value) x e = ap (λ y. fine y) (ok_same {E = Refusal} value x e)
 was_read offset (Err place) x e = absurd cc
 
-was_fact : {A : Type 0} (r : Result A Fact) (x : A) → by_facts r ≡ Ok x → r ≡ Ok x
+pub was_fact : {A : Type 0} (r : Result A Fact) (x : A) → by_facts r ≡ Ok x → r ≡ Ok x
 was_fact (Ok value) x e = ap (λ y. fine y) (ok_same {E = Refusal} value x e)
 was_fact (Err fact) x e = absurd cc
 
@@ -51,15 +45,15 @@ ordered_by : (test : Bool) (place : ℕ) (u : Unit {0}) → cond test (fine tt) 
 ordered_by true place u e = refl
 ordered_by false place u e = absurd cc
 
-was_in_order : (e : EvidenceFile) (u : Unit {0}) → ordered e ≡ Ok u → e.period.from ≤ e.period.to
+pub was_in_order : (e : EvidenceFile) (u : Unit {0}) → ordered e ≡ Ok u → e.period.from ≤ e.period.to
 was_in_order e u h = leb-true _ _ (ordered_by (nat_le e.period.from e.period.to) (to_offset e.answer e.promise) u h)
 
 -- ---- all steps
 
-abbrev judgement : List ℕ → PromiseFile → AnswerFile → EvidenceFile → Result (List Bool) Fact
+abbrev pub judgement : List ℕ → PromiseFile → AnswerFile → EvidenceFile → Result (List Bool) Fact
 judgement root promise answer e = judged root (audited_by promise ∷ []) (meant (promise.says ∷ [])) answer e.period e.claims
 
-all_steps : (root bytes : List ℕ) (e : EvidenceFile) (answer : AnswerFile) (promise : PromiseFile) (values : List Bool) → evidence_of bytes ≡ Ok e → answer_of e.answer ≡ Ok answer
+pub all_steps : (root bytes : List ℕ) (e : EvidenceFile) (answer : AnswerFile) (promise : PromiseFile) (values : List Bool) → evidence_of bytes ≡ Ok e → answer_of e.answer ≡ Ok answer
     → promise_of e.promise ≡ Ok promise → e.period.from ≤ e.period.to → judgement root promise answer e ≡ Ok values → verified root bytes ≡ Ok values
 unfolding verified
 all_steps root bytes e answer promise values r1 r2 r3 r4 r5 =

@@ -1,5 +1,5 @@
 -- Evidence of a report is read back.
-use Rattle.std.proofs.Common.{◌≡◌, ℕ, suc, ◌+◌, ◌^◌, ◌<◌, ◌≤◌, List, [], ◌∷◌, ◌++◌, length, Ok, arith}
+use Rattle.std.proofs.Common.{◌≡◌, ℕ, ◌≤◌, List, [], ◌∷◌, ◌++◌, length, Ok, arith}
 use Rattle.std.specs.List.{AllByRecursion, flat_map}
 use Rattle.std.proofs.lemmas.List.{length-append}
 use Rattle.byteorder.specs.Endian.{big_bytes}
@@ -7,7 +7,7 @@ use Rattle.byteorder.specs.Numbers.{length-bytes_high_first}
 use Rattle.nr_spec_log.specs.Authenticator.{authenticator}
 use Rattle.nr_spec_report.specs.Claims.{Broken, Claim, Conflict, Wrong}
 use Rattle.nr_spec_outcome.specs.Report.{Report, claims_of}
-use Rattle.nr_spec_evidence.specs.Evidence.{EvidenceFile, IsClaim, IsEvidence, claim_bytes, evidence_file, evidence_front, evidence_of, most_evidence, sized}
+use Rattle.nr_spec_evidence.specs.Evidence.{EvidenceFile, IsClaim, IsEvidence, claim_bytes, evidence_file, evidence_front, evidence_of, sized}
 use Rattle.nr_laws_verify.specs.Audits.{Audit, HasBytes, HasRoom, Reports, evidence_of_report}
 
 -- ---- there are fewer claims than bytes

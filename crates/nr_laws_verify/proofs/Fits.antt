@@ -1,14 +1,14 @@
 -- Each claim of a report has a spelling.
-use Rattle.std.proofs.Common.{◌≡◌, ℕ, suc, ◌+◌, ◌^◌, ◌<◌, ◌≤◌, Bool, true, false, cond, not, nat_le, ◌==◌, bytes_eq, List, [], ◌∷◌, ◌++◌, length, map, Option, Some, None, Result, Ok, Err, refl, sym, ap, subst, arith}
+use Rattle.std.proofs.Common.{◌≡◌, ℕ, suc, ◌+◌, ◌^◌, ◌<◌, ◌≤◌, Bool, true, false, cond, List, [], ◌∷◌, ◌++◌, length, map, Option, Some, None, Ok, refl, subst, arith}
 use Rattle.std.specs.Prelude.{filter}
-use Rattle.std.specs.List.{AllByRecursion, flat_map}
+use Rattle.std.specs.List.{AllByRecursion}
 use Rattle.std.proofs.lemmas.List.{length-append}
 use Rattle.nr_spec_wire.specs.Reading.{IsBytes}
 use Rattle.nr_spec_log.specs.Chain.{LogEntry}
 use Rattle.nr_spec_log.specs.Authenticator.{AreAuthenticators, Authenticator, IsAuthenticator, auths_file, auths_of}
-use Rattle.nr_spec_log.specs.Answer.{AnswerFile, IsAnswer, answer_file, answer_of, most_first}
+use Rattle.nr_spec_log.specs.Answer.{AnswerFile, IsAnswer, answer_file, answer_of}
 use Rattle.nr_spec_bgp.specs.Prefixes.{Cidr, IsCidr}
-use Rattle.nr_spec_history.specs.Conflicts.{Period, answer_links, answer_value, conflicts_of, is_conflict, is_signed}
+use Rattle.nr_spec_history.specs.Conflicts.{Period, answer_links, conflicts_of, is_conflict}
 use Rattle.nr_spec_counts.specs.declared.cause.Cause.{Cause}
 use Rattle.nr_spec_counts.specs.declared.cause.Cause.TheVariants as causes
 use Rattle.nr_spec_counts.specs.Causes.{cause_number}
@@ -16,7 +16,7 @@ use Rattle.nr_spec_counts.specs.Tallies.{Numbers}
 use Rattle.nr_spec_bounds.specs.Bounds.{AreStated}
 use Rattle.nr_laws_bounds.proofs.RowsFit.{no_rows_fit}
 use Rattle.nr_spec_report.specs.Wrong.{Base, WrongEntry, cause_after, is_within, nothing_before, wrong_after, wrong_by, wrong_entries, wrong_next}
-use Rattle.nr_spec_report.specs.Claims.{Claim, Conflict}
+use Rattle.nr_spec_report.specs.Claims.{Conflict}
 use Rattle.nr_spec_runs.specs.Runs.{Key, Run, Span, key_of, runs_of}
 use Rattle.nr_spec_typing.specs.declared.text.Promise.{Promise}
 use Rattle.nr_spec_truth.specs.Truths.{Truth, meant}
@@ -25,7 +25,7 @@ use Rattle.nr_spec_promises.specs.Moments.{Mark, moments}
 use Rattle.nr_spec_promises.specs.Broken.{is_broken, moment_at}
 use Rattle.nr_spec_promises.specs.Found.{broken_at, broken_runs, keys_from, keys_in, prefixes_over, run_at}
 use Rattle.nr_spec_outcome.specs.Report.{Report, broken_claim, claims_of, wrong_claim}
-use Rattle.nr_spec_outcome.specs.Outcome.{Audited, Fact, Form, Head, Short, Unsigned, digests_in_force, holds_or, network_fact, numbers_of_all, outcome, outcome_over, promise_fact, promise_files, refused_by, report_of}
+use Rattle.nr_spec_outcome.specs.Outcome.{numbers_of_all, promise_files, report_of}
 use Rattle.nr_spec_evidence.specs.Evidence.{IsClaim, most_cause}
 use Rattle.nr_spec_texts.specs.Promises.{PromiseFile, audited_by}
 use Rattle.nr_laws_verify.specs.Audits.{Audit, HasBytes, Reports}
@@ -33,7 +33,7 @@ use Rattle.nr_laws_verify.proofs.Given.{given}
 use Rattle.nr_laws_verify.proofs.Each.{each_appended, each_filtered, each_flat, each_mapped, each_weaker}
 use Rattle.nr_laws_verify.proofs.Stated.{answer_stated}
 use Rattle.nr_laws_verify.proofs.Named.{IsSaid, SaysWhatIsDeclared, promise_said}
-use Rattle.nr_laws_verify.proofs.Prefixes.{AreCidrs, FileNames, all_cidrs}
+use Rattle.nr_laws_verify.proofs.Prefixes.{AreCidrs, all_cidrs}
 use Rattle.nr_laws_verify.proofs.Spans.{IsMark, IsMoment, IsSpan, IsTime, marks, spans}
 
 -- ---- wrong entries

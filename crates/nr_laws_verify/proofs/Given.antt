@@ -1,5 +1,5 @@
 -- Where an audit gives a report, it is that of its definition, and an audit with other authenticators gives one too.
-use Rattle.std.proofs.Common.{◌≡◌, ℕ, Bool, true, false, not, nat_le, ◌==◌, bytes_eq, List, Option, Some, None, Result, Ok, Err, refl, ◌∙◌}
+use Rattle.std.proofs.Common.{◌≡◌, ℕ, Bool, true, false, not, nat_le, ◌==◌, bytes_eq, List, Option, Some, None, Result, Ok, refl, ◌∙◌}
 use Rattle.nr_spec_log.specs.Authenticator.{Authenticator}
 use Rattle.nr_spec_log.specs.Answer.{AnswerFile}
 use Rattle.nr_spec_history.specs.Conflicts.{Period, answer_value, is_signed}

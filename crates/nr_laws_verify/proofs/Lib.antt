@@ -7,3 +7,4 @@ mod Spans
 pub mod Fits
 pub mod Back
 pub mod Accepted
+pub mod Told

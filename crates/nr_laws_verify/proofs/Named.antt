@@ -1,11 +1,11 @@
 -- What a promise file that is read says: few promises, which name prefixes.
-use Rattle.std.proofs.Common.{◌≡◌, ℕ, ◌≤◌, List, [], ◌∷◌, length, map, Ok, sym, ap, subst, ◌∙◌}
+use Rattle.std.proofs.Common.{◌≡◌, ℕ, ◌≤◌, List, length, Ok, sym, subst}
 use Rattle.std.specs.List.{All, AllByRecursion, flat_map}
-use Rattle.std.proofs.lemmas.List.Elements.{All-from_recursion, All-weaker}
+use Rattle.std.proofs.lemmas.List.Elements.{All-from_recursion}
 use Rattle.sha2.specs.Sha256.{sha256}
 use Rattle.nr_spec_wire.specs.Reading.{◌>>=◌}
 use Rattle.nr_spec_wire.proofs.Steps.{bind_ok, ok_is}
-use Rattle.nr_spec_bgp.specs.Prefixes.{Cidr, IsCidr}
+use Rattle.nr_spec_bgp.specs.Prefixes.{IsCidr}
 use Rattle.nr_rule_syntax.specs.declared.tree.PatternText.{PatternText}
 use Rattle.nr_rule_syntax.specs.declared.tree.PrefixText.{PrefixText}
 use Rattle.nr_rule_syntax.specs.declared.tree.File.{File}
@@ -13,7 +13,7 @@ use Rattle.nr_rule_syntax.specs.declared.tree.Decl.{Decl}
 use Rattle.nr_rule_syntax.specs.declared.tree.Decl.TheVariants as decls
 use Rattle.nr_rule_syntax.specs.Nesting.{IsNested}
 use Rattle.nr_rule_syntax.specs.Reading.{file_of}
-use Rattle.nr_rule_syntax.specs.Written.{IsPattern, IsPrefix, IsWritten}
+use Rattle.nr_rule_syntax.specs.Written.{IsPattern, IsWritten}
 use Rattle.nr_rule_syntax.proofs.WrittenFiles.{IsRead, file_is_read}
 use Rattle.nr_spec_typing.specs.declared.text.Promise.{Promise}
 use Rattle.nr_spec_typing.specs.Declarations.{TypedText, typed_text}

@@ -7,7 +7,7 @@ use Rattle.nr_spec_bounds.specs.Bounds.{AreStated}
 use Rattle.nr_spec_report.specs.Wrong.{Base, is_within}
 use Rattle.nr_spec_runs.specs.Runs.{Moment, Span, row_end, run_from, runs_after}
 use Rattle.nr_spec_promises.specs.Files.{PromiseFile, first_promised}
-use Rattle.nr_spec_promises.specs.Moments.{Mark, entries_before, marks_after, moments, view_after}
+use Rattle.nr_spec_promises.specs.Moments.{Mark, marks_after, moments, view_after}
 use Rattle.nr_laws_verify.proofs.Each.{each_appended}
 
 abbrev pub IsTime : ℕ → Type 0
