@@ -1,7 +1,7 @@
 mod Each
 mod Given
 mod Stated
-mod Named
+pub mod Named
 mod Prefixes
 mod Spans
 pub mod Fits

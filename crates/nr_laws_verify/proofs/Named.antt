@@ -1,5 +1,5 @@
 -- What a promise file that is read says: few promises, which name prefixes.
-use Rattle.std.proofs.Common.{◌≡◌, ℕ, ◌≤◌, List, length, Ok, sym, subst}
+use Rattle.std.proofs.Common.{◌≡◌, ℕ, ◌≤◌, List, length, Ok, refl, sym, subst}
 use Rattle.std.specs.List.{All, AllByRecursion, flat_map}
 use Rattle.std.proofs.lemmas.List.Elements.{All-from_recursion}
 use Rattle.sha2.specs.Sha256.{sha256}
@@ -33,6 +33,7 @@ pub record IsSaid (t : TypedText) : Type 0 where
 -- ---- what is read
 
 record AreRead (text : List ℕ) (p : PromiseFile) : Type 0 where
+  same : p.text ≡ text
   reads : file_of text ≡ Ok p.file
   says : typed_text p.file ≡ Ok p.says
 
@@ -42,7 +43,10 @@ parts text p e =
     let make : File → TypedText → PromiseFile = λ file says. record { text = text; digest = sha256 text; file = file; says = says } in
     let f = bind_ok (file_of text) (λ file. typed_text file >>= (λ says. Ok (make file says))) p e in
     let t = bind_ok (typed_text f.0) (λ says. Ok (make f.0 says)) p f.2 in
-    subst (AreRead text) (ok_is (make f.0 t.0) p t.2) (record { reads = f.1; says = t.1 })
+    subst (AreRead text) (ok_is (make f.0 t.0) p t.2) (record { same = refl; reads = f.1; says = t.1 })
+
+pub text_kept : (text : List ℕ) (p : PromiseFile) → promise_of text ≡ Ok p → p.text ≡ text
+text_kept text p e = (parts text p e).same
 
 -- ---- its declarations
 

@@ -1,9 +1,10 @@
 //! Audits, and the evidence of what they claim.
 
-ghost use Rattle.std.specs.Prelude.{◌≡◌, ◌≤◌, Ok, map, true};
+ghost use Rattle.std.specs.Prelude.{◌≡◌, ◌≤◌, ℕ, List, Ok, map, true};
 ghost use Rattle.std.specs.List.{AllByRecursion};
 ghost use Rattle.nr_spec_evidence.specs.Evidence.{IsClaim, IsEvidence, evidence_file, evidence_of};
 ghost use Rattle.nr_spec_outcome.specs.Report.{Report, claims_of};
+ghost use Rattle.nr_spec_texts.specs.Promises.{PromiseFile, promise_of};
 ghost use Rattle.nr_spec_verify.specs.Verified.{verified};
 ghost use Rattle.nr_laws_verify.specs.Audits.{Audit, HasBytes, HasRoom, Reports, evidence_of_report};
 
@@ -11,6 +12,12 @@ use nr_laws_claims::a_verifier_accepts_what_an_audit_claims;
 use nr_laws_evidence::evidence_file_again;
 use nr_laws_log::{answer_file_found, auths_file_found};
 use nr_laws_typing::text_says_what_is_declared;
+
+/// A promise file that is read holds its text, which is what evidence has of it.
+#[tactic(auto, using(crate::proofs::Named::text_kept))]
+pub fn a_promise_file_holds_its_text()
+    ensures { (text : List ℕ) (promise : PromiseFile) → promise_of text ≡ Ok promise → promise.text ≡ text }
+{}
 
 /// Each claim of a report has a spelling.
 pub fn claims_of_a_report_fit()

@@ -7,6 +7,7 @@ mod audits;
 mod verdicts;
 
 pub use audits::{
-    claims_of_a_report_fit, evidence_of_an_audit_reads_back, the_verifier_accepts_an_audit,
+    a_promise_file_holds_its_text, claims_of_a_report_fit, evidence_of_an_audit_reads_back,
+    the_verifier_accepts_an_audit,
 };
 pub use verdicts::values_are_those_of_an_audit;
