@@ -60,6 +60,6 @@ typing_refused law text file place read e =
     let most = length text in
     let there : moved_fault (back most) (typed_text file) ≡ Err (back most place) = ap (moved_fault (back most)) e in
     let same : (let r : Result TypedText ℕ = Err place in r) ≡ Err (back most place) =
-        sym e ∙ ap typed_text (sym (file_stays text file read)) ∙ law (back most) file ∙ there in
+    sym e ∙ ap typed_text (sym (file_stays text file read)) ∙ law (back most) file ∙ there in
     let is : place ≡ back most place = err_is place (back most place) same in
     omega (arith, is)
