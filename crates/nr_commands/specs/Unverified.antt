@@ -1,6 +1,6 @@
 -- Why evidence of whose claims nothing is told ends a command.
-use Rattle.nr_verify.specs.declared.refusal.VerifyError.{VerifyError}
-use Rattle.nr_verify.specs.declared.refusal.VerifyError.TheVariants as unverified
+use Rattle.nr_verify.specs.declared.fault.VerifyError.{VerifyError}
+use Rattle.nr_verify.specs.declared.fault.VerifyError.TheVariants as unverified
 use Rattle.nr_verify_heads.specs.declared.refusal.Refusal as declared_refusal
 use Rattle.nr_verify_heads.specs.declared.refusal.Refusal.TheVariants as unheeded
 use Rattle.nr_command_parts.specs.declared.input.Input.TheVariants as input

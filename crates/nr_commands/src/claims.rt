@@ -1,8 +1,8 @@
 //! The claims of a report.
 
-ghost use Rattle.std.specs.Prelude.{◌≡◌, ◌++◌, IfOk, OnOk, map};
+ghost use Rattle.std.specs.Prelude.{◌≡◌, ◌∷◌, [], ◌++◌, IfOk, OnOk, map};
 ghost use Rattle.nr_spec_counts.specs.Causes.{cause_number};
-ghost use Rattle.nr_spec_report.specs.Claims as claims;
+ghost use Rattle.nr_spec_report.specs.Claims.{Conflict};
 ghost use Rattle.nr_spec_outcome.specs.Report.{broken_claim, claims_of, wrong_claim};
 ghost use Rattle.nr_evidence.specs.Views.{claim_of};
 ghost use Rattle.nr_audit.specs.Views.{marked, report_of, wrong_of};
@@ -32,6 +32,13 @@ fn number_of(cause: Cause) -> u8
     }
 }
 
+// Adds a copy of an item at the end.
+fn push_copy<T: Copy>(list: &mut List<T>, item: &T) -> Result<(), Memory>
+    ensures { OnOk result (list.new ≡ list.old ++ item.now ∷ []) }
+{
+    list.push(*item)
+}
+
 // Adds one claim for each authenticator that is marked, in file order.
 fn add_conflicts<'a>(
     claims: &mut List<Claim<'a>>,
@@ -39,7 +46,7 @@ fn add_conflicts<'a>(
     auths: &Auths<'a>,
 ) -> Result<(), Memory>
     ensures { OnOk result (map claim_of claims.new
-        ≡ map claim_of claims.old ++ map claims.Conflict (marked auths.now marks.now)) }
+        ≡ map claim_of claims.old ++ map Conflict (marked auths.now marks.now)) }
 {
     let mut left = auths.iter();
     for mark in marks {
@@ -47,7 +54,7 @@ fn add_conflicts<'a>(
         if let Some(auth) = auth
             && *mark
         {
-            claims.push(Claim::Conflict(auth))?;
+            push_copy(claims, &Claim::Conflict(auth))?;
         }
     }
     Ok(())
@@ -59,10 +66,11 @@ fn add_wrong<'a>(claims: &mut List<Claim<'a>>, wrong: &[WrongEntry]) -> Result<(
         ≡ map claim_of claims.old ++ map wrong_claim (map wrong_of wrong.now)) }
 {
     for entry in wrong {
-        claims.push(Claim::Wrong {
+        let claim = Claim::Wrong {
             seq: entry.seq,
             cause: number_of(entry.cause),
-        })?;
+        };
+        push_copy(claims, &claim)?;
     }
     Ok(())
 }
@@ -72,13 +80,14 @@ fn add_broken<'a>(claims: &mut List<Claim<'a>>, runs: &[Run]) -> Result<(), Memo
     ensures { OnOk result (map claim_of claims.new ≡ map claim_of claims.old ++ map broken_claim (runs_in runs.now)) }
 {
     for run in runs {
-        claims.push(Claim::Broken {
+        let claim = Claim::Broken {
             file: run.file,
             promise: run.promise,
             prefix: run.prefix,
             begin: run.begin,
             end: run.end,
-        })?;
+        };
+        push_copy(claims, &claim)?;
     }
     Ok(())
 }
