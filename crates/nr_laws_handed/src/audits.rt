@@ -14,11 +14,15 @@ ghost use Rattle.nr_laws_program.specs.Replies.{LeftByWriting};
 ghost use Rattle.nr_laws_verify.specs.Audits.{Reports};
 ghost use Rattle.nr_laws_handed.specs.Handed.{LeavesEvidence, audit_of, evidence_by};
 
+use nr_laws_words::words_are_requests;
+
 /// Words ask only for audits over a period that doesn't run back, whose ends have less than eight bytes.
 pub fn audits_have_a_period_in_order()
     ensures { (words : List (List ℕ)) (q : AuditRequest) → request_in words ≡ Some (Audit q)
         → (q.period.from ≤ q.period.to) × (q.period.to ≤ most_number) }
-{}
+{
+    words_are_requests();
+}
 
 /// Where files tell what they hold and an `audit` that is to save evidence answers 0 or 1, or has such an ending and the
 /// sink fails, the evidence file holds exactly the evidence of the report whose text is offered, synced. That is the

@@ -14,6 +14,7 @@ ghost use Rattle.nr_laws_promises.specs.BrokenRows.{IsOneOf};
 ghost use Rattle.nr_laws_handed.specs.Handed.{Accepts, HoldsBytes, IsHanded, LeavesEvidence, accepted_ending};
 
 use nr_laws_verify::the_verifier_accepts_an_audit;
+use nr_laws_words::words_are_requests;
 
 /// A verifier that accepts each claim ends with 0 and a line `accepted` of each. Its status is 1 exactly where some
 /// claim isn't true, and 0 exactly where all are.
@@ -39,5 +40,6 @@ pub fn verify_accepts_the_evidence_of_an_audit()
         → (left : LeavesEvidence q name t new run.ending)
         × Accepts (claims_of left.report) start end begin done answered verifying.result verifying.ending }
 {
+    words_are_requests();
     the_verifier_accepts_an_audit();
 }
