@@ -1,14 +1,13 @@
 -- What a run of `verify` makes of the evidence that a run of `audit` left.
-use Rattle.std.proofs.Common.{◌≡◌, ◌≢◌, ℕ, ◌<◌, ◌≤◌, ◌^◌, Bool, true, nat_le, List, length, map, take, Option, Some, None, Result, Ok, Err, refl, sym, ap, subst, ◌∙◌, inl, inr, ◌⊎◌, ⊎_elim, arith}
-use Rattle.std.specs.Prelude.{option_map, if◌then◌else◌}
+use Rattle.std.proofs.Common.{◌≡◌, ◌≢◌, ℕ, ◌<◌, ◌≤◌, ◌^◌, Bool, true, List, length, map, take, Option, Some, Result, Ok, Err, refl, ap, ◌∙◌, inl, inr, ◌⊎◌, ⊎_elim, arith}
+use Rattle.std.specs.Prelude.{option_map}
 use Rattle.std.proofs.lemmas.Bool.{le-leb}
 use Rattle.std.proofs.Math.Seq.{take-length}
 use Rattle.nr_spec_plans.specs.Disk as disk
-use Rattle.nr_spec_plans.specs.Plans.{Ask, Read, Room, act, want, followed_by, ◌>>=◌}
+use Rattle.nr_spec_plans.specs.Plans.{Ask, Room, act, want}
 use Rattle.nr_spec_plans.specs.Laws.{outcome}
 use Rattle.nr_spec_plans.proofs.SaveLaws.{outcome_goes}
 use Rattle.nr_spec_report.specs.Claims.{Claim}
-use Rattle.nr_spec_history.specs.Conflicts.{Period}
 use Rattle.nr_spec_evidence.specs.Evidence.{evidence_file}
 use Rattle.nr_spec_outcome.specs.Report.{Report, claims_of}
 use Rattle.nr_spec_verify.specs.Verified.{verified}
@@ -17,7 +16,7 @@ use Rattle.nr_spec_program.specs.Command.{Ending, EvidenceInput, Input, fault_en
 use Rattle.nr_spec_program.specs.Verifying.{checked, verified_ending, verify_plan}
 use Rattle.nr_spec_program.specs.Running.{Answers, RunsTo}
 use Rattle.nr_spec_program.specs.Table.{plan_for, plan_of}
-use Rattle.nr_spec_program.specs.Causes.{Answered, EndsAs, EndsBy, NoneRose, ended}
+use Rattle.nr_spec_program.specs.Causes.{Answered, EndsAs, NoneRose, ended}
 use Rattle.nr_laws_words.specs.Commands.{Asks}
 use Rattle.nr_laws_program.proofs.FileLaws.{run_ends_as, run_ends_by}
 use Rattle.nr_laws_verify.specs.Audits as audits
@@ -93,14 +92,14 @@ accepts : (checking : List (List ℕ)) (r : VerifyRequest) (claims : List Claim)
     → (run : RunsTo (plan_for checking) start end begin done answered) → Accepts claims start end begin done answered run.result run.ending
 accepts checking r claims found start end begin done answered is told gives run = record {
   ending = ⊎_elim (λ same. inl (same ∙ ap ended gives)) (λ other. inr other) (run_ends_by checking (Verify r) found.holds start end begin done answered is holds run);
-  whole = λ none room. by_own (own run.ending (accepted_ending claims) answered refl room (⊎_elim (λ same. inl (same ∙ ap ended gives)) (λ other. inr other) (as none).ending) (as none).answers);
+  whole = λ none room. by_own (own run.ending (accepted_ending claims) answered refl room (⊎_elim (λ same. inl (same ∙ ap ended gives)) (λ other. inr other) (by_files none).ending) (by_files none).answers);
 }
   where
     holds : option_map (λ t. t.holds) start.told ≡ Some found.holds
     holds = ap (option_map (λ (t : disk.Told). t.holds)) told
 
-    as : NoneRose start end begin done → EndsAs found.holds (plan_of (Verify r)) run.ending answered
-    as none = run_ends_as checking (Verify r) found.holds start end begin done answered is holds run none
+    by_files : NoneRose start end begin done → EndsAs found.holds (plan_of (Verify r)) run.ending answered
+    by_files none = run_ends_as checking (Verify r) found.holds start end begin done answered is holds run none
 
     by_own : (answered ≡ 0) × (run.ending ≡ accepted_ending claims) → (answered ≡ 0) × (done ≡ disk.taking (accepted_ending claims).text begin)
     by_own o = (o.0, taken run.ending run.delivers.got begin done answered o.0 run.delivers.offers run.delivers.answers ∙ ap (λ (x : Ending). disk.taking x.text begin) o.1)

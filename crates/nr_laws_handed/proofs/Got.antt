@@ -3,21 +3,20 @@ use Rattle.std.proofs.Common.{◌≡◌, ℕ, ◌≤◌, length, List, [], Optio
 use Rattle.std.specs.Prelude.{nat_le, option_map}
 use Rattle.std.proofs.lemmas.Bool.{cases_Bool, leb-true}
 use Rattle.nr_spec_plans.specs.Disk.{Contents, Disk, Told, bytes_of}
-use Rattle.nr_spec_plans.specs.Plans.{Ask, Read, Room, Runs, act, followed_by, ◌>>=◌}
+use Rattle.nr_spec_plans.specs.Plans.{Read, Room, Runs, act, followed_by}
 use Rattle.nr_spec_plans.specs.Laws.{outcome}
 use Rattle.nr_spec_plans.proofs.PlanLaws.{gives_outcome}
 use Rattle.nr_spec_log.specs.Authenticator.{auths_of}
-use Rattle.nr_spec_log.specs.Answer.{AnswerFile, answer_of}
+use Rattle.nr_spec_log.specs.Answer.{answer_of}
 use Rattle.nr_spec_outcome.specs.Report.{Report}
 use Rattle.nr_spec_outcome.specs.Outcome.{Fact}
-use Rattle.nr_spec_texts.specs.Promises.{PromiseFile, audited_by, promise_of}
+use Rattle.nr_spec_texts.specs.Promises.{PromiseFile, promise_of}
 use Rattle.nr_spec_commands.specs.Words.{AuditRequest}
-use Rattle.nr_spec_evidence.specs.Evidence.{EvidenceFile}
 use Rattle.nr_spec_program.specs.Command.{AnswerInput, AuthsInput, Input, PromiseInput, concluded, input_limit, judged, load, promise_plan, sized, well_formed}
 use Rattle.nr_spec_program.specs.Causes.{Reported, reported_plan}
 use Rattle.nr_laws_program.proofs.Outcomes.{apart, formed_gives, load_gives, sized_gives}
 use Rattle.nr_laws_program.proofs.AuditLaws.{evidence_for}
-use Rattle.nr_laws_verify.specs.Audits.{Audit, Reports, evidence_of_report}
+use Rattle.nr_laws_verify.specs.Audits.{Reports, evidence_of_report}
 use Rattle.nr_laws_verify.proofs.Named.{text_kept}
 use Rattle.nr_laws_handed.specs.Handed.{audit_of}
 use Rattle.nr_laws_handed.proofs.Parts.{reported_each}

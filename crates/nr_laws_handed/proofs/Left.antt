@@ -1,12 +1,11 @@
 -- What a run of `audit` leaves.
-use Rattle.std.proofs.Common.{◌≡◌, ◌≢◌, ℕ, ◌≤◌, length, List, Option, Some, None, Result, Ok, Err, refl, sym, ap, subst, ◌∙◌, inl, inr, ◌⊎◌, ⊎_elim}
-use Rattle.std.specs.Prelude.{option_map}
+use Rattle.std.proofs.Common.{◌≡◌, ◌≢◌, ℕ, List, Option, Some, None, Result, Ok, Err, refl, sym, ap, subst, ◌∙◌, inl, inr, ◌⊎◌, ⊎_elim}
 use Rattle.nr_spec_plans.specs.Disk.{Contents, Disk, Tape, Told}
 use Rattle.nr_spec_plans.specs.Plans.{Done, Room, Halt, Refused, Runs, followed_by, ◌>>=◌}
-use Rattle.nr_spec_plans.specs.Laws.{Each, IsLeftBy, IsRead, Saved, Unchanged}
+use Rattle.nr_spec_plans.specs.Laws.{Each, IsLeftBy, IsRead, Unchanged}
 use Rattle.nr_spec_plans.specs.Steps.{OnlyBy}
 use Rattle.nr_spec_plans.proofs.PlanLaws.{each_followed}
-use Rattle.nr_spec_evidence.specs.Evidence.{EvidenceFile, evidence_file, most_evidence}
+use Rattle.nr_spec_evidence.specs.Evidence.{EvidenceFile, evidence_file}
 use Rattle.nr_spec_saving.specs.Saving.{TooLong, save_evidence}
 use Rattle.nr_laws_saving.proofs.EvidenceLaws.{evidence_declined, evidence_fits, evidence_left, evidence_saved}
 use Rattle.nr_spec_outcome.specs.Report.{Report}
@@ -21,10 +20,10 @@ use Rattle.nr_laws_program.proofs.PlanKinds.{evidence_each}
 use Rattle.nr_laws_program.proofs.FileLaws.{runs_for, told_still}
 use Rattle.nr_laws_program.proofs.ReplyLaws.{one_held}
 use Rattle.nr_laws_program.proofs.AuditLaws.{evidence_for, gave_report, is_report, kept}
-use Rattle.nr_laws_verify.specs.Audits.{HasRoom, Reports, evidence_of_report}
+use Rattle.nr_laws_verify.specs.Audits.{Reports, evidence_of_report}
 use Rattle.nr_laws_handed.specs.Handed.{LeavesEvidence, audit_of, evidence_by}
-use Rattle.nr_laws_handed.proofs.Parts.{Halves, Keeps, gave_refusal, gave_well, halves_in, kept_keeps}
-use Rattle.nr_laws_handed.proofs.Got.{Got, evidence_is, reported_gives}
+use Rattle.nr_laws_handed.proofs.Parts.{Halves, gave_refusal, gave_well, halves_in, kept_keeps}
+use Rattle.nr_laws_handed.proofs.Got.{evidence_is, reported_gives}
 
 -- ---- where a report was offered
 

@@ -1,8 +1,7 @@
 -- The two parts of a run of `audit`: what is read, and what is saved.
-use Rattle.std.proofs.Common.{◌≡◌, ℕ, List, [], Option, Some, None, Result, Ok, Err, refl, sym, ap, subst, ◌∙◌, inl, inr, ◌⊎◌, ⊎_elim}
-use Rattle.std.specs.Prelude.{option_map}
+use Rattle.std.proofs.Common.{◌≡◌, ℕ, List, [], Option, Some, Result, Ok, Err, refl, sym, ap, subst, ◌∙◌, inl, inr, ◌⊎◌, ⊎_elim}
 use Rattle.nr_spec_plans.specs.Disk.{Disk, Memory}
-use Rattle.nr_spec_plans.specs.Plans.{Done, Room, Halt, Refused, Faulted, Runs, followed_by, halting, want, ◌>>=◌}
+use Rattle.nr_spec_plans.specs.Plans.{Done, Room, Halt, Refused, Faulted, Runs, followed_by, halting, ◌>>=◌}
 use Rattle.nr_spec_plans.specs.Laws.{Each, IsRead}
 use Rattle.nr_spec_plans.specs.Steps.{OnlyBy}
 use Rattle.nr_spec_plans.proofs.PlanLaws.{each_followed, taken_apart}
@@ -12,7 +11,7 @@ use Rattle.nr_spec_log.specs.Answer.{answer_of}
 use Rattle.nr_spec_evidence.specs.Evidence.{EvidenceFile}
 use Rattle.nr_spec_saving.specs.Saving.{TooLong, save_evidence}
 use Rattle.nr_spec_commands.specs.Words.{AuditRequest, Audit}
-use Rattle.nr_spec_program.specs.Command.{AnswerInput, AuthsInput, Ending, Refusal, Work, audit_ending, evidence_plan, judged, load, long_evidence, promise_plan, well_formed}
+use Rattle.nr_spec_program.specs.Command.{Ending, Refusal, Work, audit_ending, evidence_plan, judged, long_evidence}
 use Rattle.nr_spec_program.specs.Table.{plan_of}
 use Rattle.nr_spec_program.specs.Causes.{Reported, reported_plan}
 use Rattle.nr_laws_program.proofs.Parts.{refused_apart}

@@ -1,9 +1,8 @@
 -- What the ending of a verifier tells of its values.
-use Rattle.std.proofs.Common.{◌≡◌, ℕ, Bool, true, false, not, ◌||◌, List, [], ◌∷◌, ◌++◌, length, map, refl, ap, inl, inr, ◌⊎◌}
+use Rattle.std.proofs.Common.{◌≡◌, ℕ, Bool, true, false, not, List, [], ◌∷◌, ◌++◌, length, map, refl, ap, inl, inr}
 use Rattle.std.specs.Prelude.{if◌then◌else◌, codes}
 use Rattle.std.specs.Fmt.{decimal}
 use Rattle.std.specs.List.{AllByRecursion, flat_map, list_any}
-use Rattle.std.proofs.lemmas.Bool.{cases_Bool}
 use Rattle.std.proofs.lemmas.List.{length-map}
 use Rattle.nr_spec_history.specs.Lines.{line}
 use Rattle.nr_spec_report.specs.Claims.{Claim}
@@ -76,4 +75,4 @@ pub all_accepted : (claims : List Claim) → verified_ending (map (λ claim. tru
 unfolding verified_ending ending_of
 all_accepted claims =
     ending_as (list_any not (map (λ claim. true) claims)) false (length (map (λ claim. true) claims)) (length claims) (flat_map claim_line (map (λ claim. true) claims)) (flat_map (λ claim. line (codes "accepted" ∷ [])) claims)
-    (trues claims) (length-map (λ claim. true) claims) (accepted_lines claims)
+    (trues claims) (length-map claims (λ claim. true)) (accepted_lines claims)

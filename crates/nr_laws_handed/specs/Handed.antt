@@ -1,4 +1,5 @@
--- Evidence that an audit writes and a verifier reads: what a run of `audit` leaves of it, and what a run of `verify` tells.
+-- Evidence that an audit writes and a verifier reads: what a run of `audit` leaves of it, and what one of `verify` tells
+-- of it.
 use Rattle.std.specs.Prelude.{◌≡◌, ◌≢◌, ◌⊎◌, ℕ, List, [], ◌∷◌, ◌++◌, length, Result, Err, Some, codes}
 use Rattle.std.specs.Fmt.{decimal}
 use Rattle.std.specs.List.{flat_map}
@@ -65,7 +66,8 @@ pub record IsHanded (q : AuditRequest) (r : VerifyRequest) (name : List ℕ) (le
 abbrev pub accepted_ending : List Claim → Ending
 accepted_ending claims = record {
   status = 0;
-  text = line (codes "claims" ∷ decimal (length claims) ∷ []) ++ flat_map (λ claim. line (codes "accepted" ∷ [])) claims;
+  text = line (codes "claims" ∷ decimal (length claims) ∷ [])
+      ++ flat_map (λ claim. line (codes "accepted" ∷ [])) claims;
 }
 
 -- A run of `verify` tells that it accepts each of these claims, where neither a fault nor want of memory ends it. Where

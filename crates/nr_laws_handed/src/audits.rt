@@ -24,10 +24,10 @@ pub fn audits_have_a_period_in_order()
     words_are_requests();
 }
 
-/// Where files tell what they hold and an `audit` that is to save evidence answers 0 or 1, or has such an ending and the
-/// sink fails, the evidence file holds exactly the evidence of the report whose text is offered, synced. That is the
-/// report on what the files held; the evidence has the bytes of the answer file and of the promise file. Every other
-/// file holds what it held.
+/// Where files tell what they hold and an `audit` that is to save evidence answers 0 or 1, or has such an ending and
+/// the sink fails, the evidence file holds exactly the evidence of the report whose text is offered, synced. That is
+/// the report on what the files held; the evidence has the bytes of the answer file and of the promise file. Every
+/// other file holds what it held.
 pub fn audit_leaves_its_evidence()
     ensures { (words : List (List ℕ)) (q : AuditRequest) (name : List ℕ) (old new : Disk) (before after : Tape)
         (status : ℕ) (t : Told) → request_in words ≡ Some (Audit q) → q.evidence ≡ Some name → old.told ≡ Some t

@@ -1,6 +1,6 @@
-//! Evidence that is handed on: what a run of `audit` leaves of the evidence that it is to save, whatever came of it, and
-//! that a run of `verify` which is given that file accepts every claim in it. The functions have no code of their own:
-//! each is a theorem, which its contract states, by the theorems that it calls.
+//! Evidence that is handed on: what a run of `audit` leaves of the evidence that it is to save, whatever came of it,
+//! and that a run of `verify` which is given that file accepts every claim in it. The functions have no code of their
+//! own: each is a theorem, which its contract states, by the theorems that it calls.
 #![tactic(auto)]
 
 mod audits;
