@@ -85,10 +85,14 @@ halves_leave q name old new t result is told h =
     inr (
       r.report,
       got.by,
-      (l.now, l.told, record {
-        left = subst (λ (held : Contents). IsLeftBy (evidence_file e) (held name) (l.now.holds name)) m.2 l.left;
-        others = λ other ne. one_held other h.read.told new.told m.0 l.now m.1 l.told (spares_contents other (kept q r) h.read new result (kept_spares q name r other is ne) h.keeps) ∙ ap (λ h. h other) m.2;
-      }),
+      (
+        l.now,
+        l.told,
+        record {
+          left = subst (λ (held : Contents). IsLeftBy (evidence_file e) (held name) (l.now.holds name)) m.2 l.left;
+          others = λ other ne. one_held other h.read.told new.told m.0 l.now m.1 l.told (spares_contents other (kept q r) h.read new result (kept_spares q name r other is ne) h.keeps) ∙ ap (λ h. h other) m.2;
+        },
+      ),
     )
 
 may_leave : (q : AuditRequest) (name : List ℕ) (old new : Disk) (t : Told) (result : Result Ending (Halt Refusal)) → q.evidence ≡ Some name → old.told ≡ Some t → Runs (Room (plan_of (Audit q))) old new result → MayLeave q name old new t

@@ -35,7 +35,6 @@ any_false (true ∷ others) (inl is) = absurd cc
 any_false (true ∷ others) (inr is) = any_false others is
 any_false (false ∷ others) is = refl
 
-
 all_true : (values : List Bool) → list_any not values ≡ false → AllByRecursion (λ value. value ≡ true) values
 all_true [] is = tt
 all_true (true ∷ others) is = (refl, all_true others is)
