@@ -46,7 +46,7 @@ pub sized_gives : (held : Contents) (input : Input) (size : Option ℕ) (n : ℕ
 sized_gives held input None n is = absurd cc
 sized_gives held input (Some found) n is = elim (cases_Bool (nat_le found (input_limit input))) [ inl by ↦ (let e = rw by at is in cc) | inr by ↦ absurd (let e = rw by at is in cc) ]
 
-pub whole_taken : (file : Option (List ℕ)) (n : ℕ) → option_map length file ≡ Some n → take n (bytes_of file) ≡ bytes_of file
+whole_taken : (file : Option (List ℕ)) (n : ℕ) → option_map length file ≡ Some n → take n (bytes_of file) ≡ bytes_of file
 whole_taken None n is = absurd cc
 whole_taken (Some bytes) n is = let e : length bytes ≡ n = cc in rw (sym e) (take-length bytes)
 
