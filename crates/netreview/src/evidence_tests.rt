@@ -3,7 +3,7 @@
 
 use crate::broken_tests::LONG;
 use crate::tests::{
-    ONES, ROOT, fails_at_the_sink, files_of, gives, holds, malformed, put_answer,
+    Log, ONES, ROOT, fails_at_the_sink, files_of, gives, holds, malformed, put_answer,
 };
 use nr_bytes::put_bytes;
 use nr_ports::MemFiles;
@@ -59,15 +59,19 @@ const MIDDLE: &[u8] = b"\x00\x00\x00\xad";
 const BACK: &[u8] =
     b"\x00\x00\x00\x00\x00\x00\x00\x01\x00\x00\x00\x00\x01\x31\x2d\x00\x00\x00\x00\x01\x03\x00\x00\x10\x0a\x01\x00\x00\x00\x00\x00\x00\x00\x4c\x4b\x40\x00\x00\x00\x00\x00\x89\x54\x40";
 
-/// The evidence of the report on a log, of 16,924 bytes.
+// Puts the evidence of the report on a log.
+fn put_evidence(alloc: Global, out: &mut Vec<u8>, log: &Log) -> bool {
+    put_bytes(out, FRONT).is_ok()
+        && put_answer(alloc, out, log)
+        && put_bytes(out, MIDDLE).is_ok()
+        && put_bytes(out, log.file).is_ok()
+        && put_bytes(out, BACK).is_ok()
+}
+
+// The evidence of the report on the log in which a promise is broken, of 16,924 bytes.
 fn evidence(alloc: Global) -> Option<Vec<u8>> {
     let mut out = Vec::new(alloc);
-    if put_bytes(&mut out, FRONT).is_ok()
-        && put_answer(alloc, &mut out, &LONG)
-        && put_bytes(&mut out, MIDDLE).is_ok()
-        && put_bytes(&mut out, LONG.file).is_ok()
-        && put_bytes(&mut out, BACK).is_ok()
-    {
+    if put_evidence(alloc, &mut out, &LONG) {
         Some(out)
     } else {
         None
@@ -181,7 +185,10 @@ const CUTS: [(usize, usize, u64); 18] = [
 
 fn is_malformed(alloc: Global, len: usize, place: u64) -> bool {
     let bytes = TINY.get(..len).unwrap_or(&[]);
-    match (evidence_file(alloc, bytes), malformed(alloc, "evidence", place)) {
+    match (
+        evidence_file(alloc, bytes),
+        malformed(alloc, "evidence", place),
+    ) {
         (Some(mut files), Some(text)) => gives(alloc, &VERIFY, &mut files, 3, &text),
         _ => false,
     }
