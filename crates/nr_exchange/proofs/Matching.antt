@@ -100,7 +100,7 @@ pub goes_on : (upto j n accepted seq : ℕ) (i : FrameItem) (rest all : List Fra
 goes_on upto j n accepted seq i rest all sends total items none so_far =
     let others : List (List ℕ) = filter_map (receipt_in n) (drop (accepted + 1 - (seq + 1)) rest) in
     let same : filter_map (receipt_in n) (drop (accepted + 1 - seq) all) ≡ others =
-        ap (λ (t : List FrameItem). filter_map (receipt_in n) (drop (accepted + 1 - seq) t)) items ∙ item_more n accepted seq i rest ∙ ap (λ (t : Option (List ℕ)). cons_option t others) (sym none) in
+    ap (λ (t : List FrameItem). filter_map (receipt_in n) (drop (accepted + 1 - seq) t)) items ∙ item_more n accepted seq i rest ∙ ap (λ (t : Option (List ℕ)). cons_option t others) (sym none) in
     ap (λ (t : List (List ℕ)). matched upto j t sends) (sym same) ∙ so_far
 
 pub goes_past : (base next at j n accepted seq : ℕ) (i : FrameItem) (rest all : List FrameItem) (sends : List (List ℕ)) (raw : List ℕ) (total : Verdict) → all ≡ i ∷ rest → Some raw ≡ receipt_if n accepted seq i
@@ -110,7 +110,7 @@ pub goes_past : (base next at j n accepted seq : ℕ) (i : FrameItem) (rest all 
 goes_past base next at j n accepted seq i rest all sends raw total items some finds so_far =
     let others : List (List ℕ) = filter_map (receipt_in n) (drop (accepted + 1 - (seq + 1)) rest) in
     let same : filter_map (receipt_in n) (drop (accepted + 1 - seq) all) ≡ raw ∷ others =
-        ap (λ (t : List FrameItem). filter_map (receipt_in n) (drop (accepted + 1 - seq) t)) items ∙ item_more n accepted seq i rest ∙ ap (λ (t : Option (List ℕ)). cons_option t others) (sym some) in
+    ap (λ (t : List FrameItem). filter_map (receipt_in n) (drop (accepted + 1 - seq) t)) items ∙ item_more n accepted seq i rest ∙ ap (λ (t : Option (List ℕ)). cons_option t others) (sym some) in
     let sum : base + (at + 1) ≡ base + next + (at + 1 - next) = omega (arith, finds.0) in
     ap (λ (k : ℕ). matched k (j + 1) others (drop (at + 1) sends)) sum ∙ sym (finds.2 (base + next) j others) ∙ ap (λ (t : List (List ℕ)). matched (base + next) j t (drop next sends)) (sym same) ∙ so_far
 
@@ -120,14 +120,14 @@ pub stops : (upto next j n accepted seq : ℕ) (i : FrameItem) (rest all : List 
 stops upto next j n accepted seq i rest all sends raw total items some finds so_far =
     let others : List (List ℕ) = filter_map (receipt_in n) (drop (accepted + 1 - (seq + 1)) rest) in
     let same : filter_map (receipt_in n) (drop (accepted + 1 - seq) all) ≡ raw ∷ others =
-        ap (λ (t : List FrameItem). filter_map (receipt_in n) (drop (accepted + 1 - seq) t)) items ∙ item_more n accepted seq i rest ∙ ap (λ (t : Option (List ℕ)). cons_option t others) (sym some) in
+    ap (λ (t : List FrameItem). filter_map (receipt_in n) (drop (accepted + 1 - seq) t)) items ∙ item_more n accepted seq i rest ∙ ap (λ (t : Option (List ℕ)). cons_option t others) (sym some) in
     sym (finds upto j others) ∙ ap (λ (t : List (List ℕ)). matched upto j t (drop next sends)) (sym same) ∙ so_far
 
 pub ends : (upto j n k : ℕ) (all : List FrameItem) (sends : List (List ℕ)) (total : Verdict) → all ≡ [] → matched upto j (filter_map (receipt_in n) (drop k all)) sends ≡ total → Accepted upto ≡ total
 unfolding matched
 ends upto j n k all sends total none so_far =
     let same : filter_map (receipt_in n) (drop k all) ≡ [] =
-        ap (λ (t : List FrameItem). filter_map (receipt_in n) (drop k t)) none ∙ ap (filter_map (receipt_in n)) (drop_none k) in
+    ap (λ (t : List FrameItem). filter_map (receipt_in n) (drop k t)) none ∙ ap (filter_map (receipt_in n)) (drop_none k) in
     ap (λ (t : List (List ℕ)). matched upto j t sends) (sym same) ∙ so_far
 
 pub found_at : {A : Type 0} (f : A → List ℕ) (xs : List A) (i : ℕ) (x : A) → slice_get xs i ≡ Some x → get_or (map f xs) i [] ≡ f x

@@ -1,5 +1,5 @@
 -- Items that are written one after another.
-use Rattle.std.proofs.Common.{◌≡◌, ℕ, zero, suc, ◌+◌, ◌<◌, List, [], ◌∷◌, ◌++◌, length, map, drop, inl, inr, sym, ap, subst, ◌∙◌, append_assoc, arith}
+use Rattle.std.proofs.Common.{◌≡◌, ℕ, zero, suc, ◌+◌, ◌<◌, List, [], ◌∷◌, ◌++◌, length, map, drop, inl, inr, refl, sym, ap, subst, ◌∙◌, append_assoc, arith}
 use Rattle.std.specs.List.{slice_get, flat_map}
 use Rattle.std.specs.Prelude.{Some, None}
 use Rattle.std.proofs.lemmas.Option.{same_Some, slice_get_cases}
@@ -14,9 +14,12 @@ use Rattle.nr_exchange.specs.Writing.{IsMadeOf, frame_text}
 pub two_pieces : (x a b w1 w2 : List ℕ) → w1 ≡ x ++ a → w2 ≡ w1 ++ b → w2 ≡ x ++ (a ++ b)
 two_pieces x a b w1 w2 e1 e2 = e2 ∙ ap (λ (t : List ℕ). t ++ b) e1 ∙ append_assoc x a b
 
+pub three_pieces : (x a b c w1 w2 w3 : List ℕ) → w1 ≡ x ++ a → w2 ≡ w1 ++ b → w3 ≡ w2 ++ c → w3 ≡ x ++ (a ++ (b ++ c))
+three_pieces x a b c w1 w2 w3 e1 e2 e3 = two_pieces x a (b ++ c) w1 w3 e1 (two_pieces w1 b c w2 w3 e2 e3)
+
 pub four_pieces : (x a b c d w1 w2 w3 w4 : List ℕ) → w1 ≡ x ++ a → w2 ≡ w1 ++ b → w3 ≡ w2 ++ c → w4 ≡ w3 ++ d → w4 ≡ x ++ (a ++ (b ++ (c ++ d)))
 four_pieces x a b c d w1 w2 w3 w4 e1 e2 e3 e4 =
-    two_pieces x a (b ++ (c ++ d)) w1 w4 e1 (two_pieces w1 b (c ++ d) w2 w4 e2 (two_pieces w2 c d w3 w4 e3 e4))
+    two_pieces x a (b ++ (c ++ d)) w1 w4 e1 (three_pieces w1 b c d w2 w3 w4 e2 e3 e4)
 
 -- ---- a loop over items
 
@@ -57,6 +60,10 @@ none_given xs i less none = elim (slice_get_cases xs i).1 [
     some_none e = cc
 
 -- ---- whole frames
+
+pub count_is : (xs : List Item) → length xs ≡ length (map frame_item_of xs)
+count_is [] = refl
+count_is (x ∷ xs) = ap (λ (n : ℕ). suc n) (count_is xs)
 
 -- the text of a frame's parts is its spelling
 pub text_is : (f : Frame) (from_as to_as number first : ℕ) (prev : List ℕ) (items : List FrameItem) (auth : List ℕ)

@@ -54,15 +54,11 @@ pub enum Verdict {
 
 // A message that came from a neighbour.
 fn raw_from<'a>(content: Option<Content<'a>>, number: u16) -> Option<&'a [u8]>
-    ensures { option_map (λ raw. raw.now) result ≡ received_from number (option_map content_view content) }
+    ensures { option_map (λ raw. raw.now) result ≡ received_from number (option_map content_view content.entry) }
 {
     match content {
         Some(Content::Recv { neighbour, raw, .. }) => {
-            if neighbour == number {
-                Some(raw)
-            } else {
-                None
-            }
+            if neighbour == number { Some(raw) } else { None }
         }
         _ => None,
     }

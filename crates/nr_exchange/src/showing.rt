@@ -11,7 +11,7 @@ use nr_entry::Content;
 
 // Whether a content names a neighbour.
 fn is_named(content: Option<Content<'_>>, number: u16) -> bool
-    ensures { result ≡ names number (option_map content_view content) }
+    ensures { result ≡ names number (option_map content_view content.entry) }
 {
     match content {
         Some(Content::Send { neighbour, .. }) => neighbour == number,

@@ -145,6 +145,13 @@ fn put_front(
     Ok(())
 }
 
+fn count_of(items: &List<Item<'_>>) -> u32
+    requires { length items.now ≤ most_items }
+    ensures { result ≡ length (map frame_item_of items.now) }
+{
+    items.len() as u32
+}
+
 fn put_frame(
     out: &mut Vec<u8>,
     from_as: u32,
@@ -160,7 +167,7 @@ fn put_frame(
     ensures { OnOk result (out.new.items ≡ out.old.items
         ++ frame_text from_as to_as number first prev.now.0 (map frame_item_of items.now) auth.now) }
 {
-    put_front(out, from_as, to_as, number, first, prev, items.len() as u32)?;
+    put_front(out, from_as, to_as, number, first, prev, count_of(items))?;
     put_items(out, items)?;
     put_bytes(out, auth)?;
     Ok(())

@@ -12,11 +12,14 @@ returns-then-eq c =
     let sends : List (List ℕ) = map (λ p. p.now) c.args.pending.now in
     let got = sym c.get.ensures ∙ c.in-Some.is in
     let lt : c.loop-i.i < length sends = omega (arith, length-map c.args.pending.now (λ p. p.now), slice_get_within c.args.pending.now c.loop-i.i c.in-Some.send got) in
-    let same : c.in-Some.send.now ≡ c.args.raw.now = (bytes_eq-Decides c.in-Some.send.now c.args.raw.now).0 (sym c.eq.ensures ∙ c.if-eq.true) in
-    (c.loop-i.invariant.above, lt, λ upto i others.
-      c.loop-i.invariant.so_far upto i others
-      ∙ comes_to sends c.loop-i.i c.in-Some.send.now c.args.raw.now lt (found_at (λ p. p.now) c.args.pending.now c.loop-i.i c.in-Some.send got) same (upto + (c.loop-i.i - c.args.from)) i others
-      ∙ ap (λ (k : ℕ). matched k (i + 1) others (drop (c.loop-i.i + 1) sends)) (omega (arith, c.loop-i.invariant.above)))
+    let same : c.in-Some.send.now ≡ c.args.raw.now = (bytes_eq-Decides c.in-Some.send.now c.args.raw.now).0 (sym c.eq.ensures ∙ c.if-eq.true) in (
+      c.loop-i.invariant.above,
+      lt,
+      λ upto i others.
+          c.loop-i.invariant.so_far upto i others
+          ∙ comes_to sends c.loop-i.i c.in-Some.send.now c.args.raw.now lt (found_at (λ p. p.now) c.args.pending.now c.loop-i.i c.in-Some.send got) same (upto + (c.loop-i.i - c.args.from)) i others
+          ∙ ap (λ (k : ℕ). matched k (i + 1) others (drop (c.loop-i.i + 1) sends)) (omega (arith, c.loop-i.invariant.above)),
+    )
 
 pub unreachable-requires : goal.unreachable-requires
 unreachable-requires c =
@@ -32,9 +35,9 @@ loop-i-preserved c =
     let test : bytes_eq c.in-Some.send.now c.args.raw.now ≡ false = sym c.eq.ensures ∙ c.if-eq.false in
     record {
       so_far = λ upto j others.
-        c.loop-i.invariant.so_far upto j others
-        ∙ passes_over sends c.loop-i.i c.in-Some.send.now c.args.raw.now lt (found_at (λ p. p.now) c.args.pending.now c.loop-i.i c.in-Some.send got) (unequal c.in-Some.send.now c.args.raw.now test) (upto + (c.loop-i.i - c.args.from)) j others
-        ∙ ap (λ (k : ℕ). matched k j (c.args.raw.now ∷ others) (drop (c.loop-i.i + 1) sends)) (omega (arith, c.loop-i.invariant.above));
+          c.loop-i.invariant.so_far upto j others
+          ∙ passes_over sends c.loop-i.i c.in-Some.send.now c.args.raw.now lt (found_at (λ p. p.now) c.args.pending.now c.loop-i.i c.in-Some.send got) (unequal c.in-Some.send.now c.args.raw.now test) (upto + (c.loop-i.i - c.args.from)) j others
+          ∙ ap (λ (k : ℕ). matched k j (c.args.raw.now ∷ others) (drop (c.loop-i.i + 1) sends)) (omega (arith, c.loop-i.invariant.above));
       above = omega (arith, c.loop-i.invariant.above);
     }
 

@@ -1,4 +1,4 @@
-use Rattle.std.proofs.Common.{◌≡◌, ℕ, ◌+◌, ◌-◌, ◌≤◌, List, ◌∷◌, drop, length}
+use Rattle.std.proofs.Common.{◌≡◌, ℕ, ◌+◌, ◌-◌, ◌≤◌, List, ◌∷◌, drop}
 use Rattle.std.specs.Prelude.{map}
 use Rattle.nr_spec_frames.specs.Verdicts.{matched}
 use Rattle.nr_exchange.proofs.accepting.find_from.Given as goal

@@ -1,4 +1,4 @@
-use Rattle.std.proofs.Common.{◌≡◌, ℕ, ◌+◌, ◌-◌, ◌<◌, ◌≤◌, ◌^◌, List, length, map, drop, sym, ap, ◌∙◌, arith}
+use Rattle.std.proofs.Common.{ℕ, ◌+◌, ◌-◌, ◌<◌, ◌≤◌, ◌^◌, List, length, map, drop, ap, ◌∙◌, arith}
 use Rattle.std.specs.List.{filter_map}
 use Rattle.std.proofs.lemmas.List.{length-map}
 use Rattle.nr_spec_frames.specs.Frames.{FrameItem}
@@ -11,7 +11,7 @@ use Rattle.nr_exchange.proofs.accepting.match_receipts.Goals as goal
 pub returns : goal.returns
 returns c =
     ends (c.args.view.now.upto + c.loop-item.next) c.loop-item.receipt c.args.view.now.number (c.args.view.now.seq + 1 - c.loop-item.seq) c.loop-item.item-iterator
-      (drop c.loop-item.next (map (λ p. p.now) c.args.view.now.pending.now)) _ c.in-None.ensures.steps.0 c.loop-item.invariant.so_far
+    (drop c.loop-item.next (map (λ p. p.now) c.args.view.now.pending.now)) _ c.in-None.ensures.steps.0 c.loop-item.invariant.so_far
 
 pub loop-item-preserved : goal.loop-item-preserved
 loop-item-preserved c =

@@ -1,4 +1,4 @@
-use Rattle.std.proofs.Common.{◌≡◌, ◌+◌, ◌-◌, ◌<◌, ◌≤◌, ◌^◌, length, take}
+use Rattle.std.proofs.Common.{◌≡◌, ◌+◌, ◌-◌, ◌≤◌, ◌^◌, length, take}
 use Rattle.nr_spec_frames.specs.Verdicts.{chain_after, frame_value}
 use Rattle.nr_exchange.proofs.accepting.value_at.Given as goal
 

@@ -1,4 +1,4 @@
-use Rattle.std.proofs.Common.{◌≡◌, ◌++◌, map, take, drop}
+use Rattle.std.proofs.Common.{◌≡◌, ◌++◌, map, drop}
 use Rattle.std.specs.List.{flat_map}
 use Rattle.nr_spec_frames.specs.Frames.{frame_item}
 use Rattle.nr_exchange.specs.Views.{frame_item_of}
