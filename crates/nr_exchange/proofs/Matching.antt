@@ -72,27 +72,14 @@ chain_more chain seq i rest le =
     let one : seq + 1 - chain.seq ≡ suc (seq + 1 - (chain.seq + 1)) = omega arith in
     rw one refl
 
-pub chain_stays : (chain : Chain) (seq : ℕ) (i : FrameItem) (rest : List FrameItem) → seq < chain.seq
-    → chain_after chain (take (seq + 1 - chain.seq) (i ∷ rest)) ≡ chain_after chain (take (seq + 1 - chain.seq) rest)
-chain_stays chain seq i rest lt =
-    let one : seq + 1 - chain.seq ≡ 0 = omega arith in
-    rw one refl
-
 abbrev nothing : {A : Type 0} → List A
 nothing = []
-
-pub take_none : {A : Type 0} (n : ℕ) → take n (nothing {A = A}) ≡ []
-take_none zero = refl
-take_none (suc n) = refl
 
 -- ---- the loop
 
 drop_none : {A : Type 0} (n : ℕ) → drop n (nothing {A = A}) ≡ []
 drop_none zero = refl
 drop_none (suc n) = refl
-
-abbrev left : ℕ → ℕ → ℕ → List FrameItem → List (List ℕ)
-left n accepted seq items = filter_map (receipt_in n) (drop (accepted + 1 - seq) items)
 
 pub goes_on : (upto j n accepted seq : ℕ) (i : FrameItem) (rest all : List FrameItem) (sends : List (List ℕ)) (total : Verdict) → all ≡ i ∷ rest → None ≡ receipt_if n accepted seq i
     → matched upto j (filter_map (receipt_in n) (drop (accepted + 1 - seq) all)) sends ≡ total
@@ -113,15 +100,6 @@ goes_past base next at j n accepted seq i rest all sends raw total items some fi
     ap (λ (t : List FrameItem). filter_map (receipt_in n) (drop (accepted + 1 - seq) t)) items ∙ item_more n accepted seq i rest ∙ ap (λ (t : Option (List ℕ)). cons_option t others) (sym some) in
     let sum : base + (at + 1) ≡ base + next + (at + 1 - next) = omega (arith, finds.0) in
     ap (λ (k : ℕ). matched k (j + 1) others (drop (at + 1) sends)) sum ∙ sym (finds.2 (base + next) j others) ∙ ap (λ (t : List (List ℕ)). matched (base + next) j t (drop next sends)) (sym same) ∙ so_far
-
-pub stops : (upto next j n accepted seq : ℕ) (i : FrameItem) (rest all : List FrameItem) (sends : List (List ℕ)) (raw : List ℕ) (total : Verdict) → all ≡ i ∷ rest → Some raw ≡ receipt_if n accepted seq i
-    → Finds sends next raw None
-    → matched upto j (filter_map (receipt_in n) (drop (accepted + 1 - seq) all)) (drop next sends) ≡ total → Disputed j ≡ total
-stops upto next j n accepted seq i rest all sends raw total items some finds so_far =
-    let others : List (List ℕ) = filter_map (receipt_in n) (drop (accepted + 1 - (seq + 1)) rest) in
-    let same : filter_map (receipt_in n) (drop (accepted + 1 - seq) all) ≡ raw ∷ others =
-    ap (λ (t : List FrameItem). filter_map (receipt_in n) (drop (accepted + 1 - seq) t)) items ∙ item_more n accepted seq i rest ∙ ap (λ (t : Option (List ℕ)). cons_option t others) (sym some) in
-    sym (finds upto j others) ∙ ap (λ (t : List (List ℕ)). matched upto j t (drop next sends)) (sym same) ∙ so_far
 
 pub ends : (upto j n k : ℕ) (all : List FrameItem) (sends : List (List ℕ)) (total : Verdict) → all ≡ [] → matched upto j (filter_map (receipt_in n) (drop k all)) sends ≡ total → Accepted upto ≡ total
 unfolding matched

@@ -81,8 +81,8 @@ fn read_front(cursor: &mut Cursor<'_>) -> Result<Front, Place>
 }
 
 /// What one network shows a neighbour of its log: entries one after another, of which those that don't name the
-/// neighbour are hidden, and the authenticator of the last. The sender uses `number` for this neighbour, the first entry
-/// has the number `first`, and `prev` is the chain value before it.
+/// neighbour are hidden, and the authenticator of the last. The sender uses `number` for this neighbour, the first
+/// entry has the number `first`, and `prev` is the chain value before it.
 #[derive(Drop)]
 pub struct Frame<'a> {
     pub from_as: u32,
