@@ -44,7 +44,6 @@ receipts_shown : (n : ℕ) (log : List LogEntry) (after k seq : ℕ) (f : Frame)
 receipts_shown n log after k seq f shows le =
     let one : seq + 1 - f.first ≡ seq - after = omega (arith, shows.first) in
     let two : after + (seq - after) ≡ seq = omega arith in
-    let seen : List FrameItem = map (seen_by n) (drop after (take k log)) in
     ap (λ (i : ℕ). filter_map (receipt_in n) (drop i f.items)) one
     ∙ ap (λ (is : List FrameItem). filter_map (receipt_in n) (drop (seq - after) is)) shows.items
     ∙ ap (filter_map (receipt_in n)) (drop_map (seen_by n) (seq - after) (drop after (take k log)))
