@@ -20,6 +20,7 @@ use nr_entry::Content;
 /// What one network knows of a neighbour: the root of its key, the number that the neighbour uses for this session, the
 /// last accepted number of an entry with its chain value (0 and the genesis value before the first), how many of the
 /// messages to the neighbour are acknowledged, and the messages after these.
+#[derive(Clone, Copy)]
 pub struct View<'a> {
     pub root: Digest,
     pub number: u16,
