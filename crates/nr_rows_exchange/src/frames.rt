@@ -1,5 +1,9 @@
 //! Two frames of a log of two entries: one of both, and one of the second.
 
+ghost use Rattle.std.specs.Prelude.{◌≡◌};
+ghost use Rattle.nr_spec_log.specs.Answer.{IsEntry};
+ghost use Rattle.nr_chain.specs.Views.{entry_of};
+
 use crate::signing::put_auth;
 use nr_bytes::{List, Memory, Place, put_bytes, put_u8, put_u16, put_u32, put_u64};
 use nr_chain::{Digest, Entry, Item, Walk, genesis, sha256};
@@ -8,7 +12,10 @@ use std::alloc::Global;
 use std::test::Fail;
 
 // The log of AS 64501: a message from its neighbour 0, and a COMMIT to that neighbour.
-pub fn heard() -> Entry<'static> {
+pub fn heard() -> Entry<'static>
+    ensures fits { IsEntry (entry_of result) }
+    ensures time { result.time ≡ 5 }
+{
     Entry {
         time: 5,
         kind: 2,
@@ -16,7 +23,10 @@ pub fn heard() -> Entry<'static> {
     }
 }
 
-pub fn commit() -> Entry<'static> {
+pub fn commit() -> Entry<'static>
+    ensures fits { IsEntry (entry_of result) }
+    ensures time { result.time ≡ 6 }
+{
     Entry {
         time: 6,
         kind: 5,
@@ -41,11 +51,11 @@ fn put_front(out: &mut Vec<u8>, first: u64, prev: &Digest, count: u32) -> Result
     put_u32(out, count)
 }
 
-fn put_shown(out: &mut Vec<u8>, entry: &Entry<'_>) -> Result<(), Memory> {
+fn put_shown(out: &mut Vec<u8>, entry: &Entry<'_>, len: u16) -> Result<(), Memory> {
     put_u8(out, 1)?;
     put_u64(out, entry.time)?;
     put_u8(out, entry.kind)?;
-    put_u16(out, entry.content.len() as u16)?;
+    put_u16(out, len)?;
     put_bytes(out, entry.content)
 }
 
@@ -54,8 +64,8 @@ pub fn of_both(alloc: Global) -> Result<(Vec<u8>, Digest), Memory> {
     let (before, _, second) = values();
     let mut out = Vec::new(alloc);
     put_front(&mut out, 1, &before, 2)?;
-    put_shown(&mut out, &heard())?;
-    put_shown(&mut out, &commit())?;
+    put_shown(&mut out, &heard(), 4)?;
+    put_shown(&mut out, &commit(), 6)?;
     let root = put_auth(alloc, 2, 6, &second.0, &mut out)?;
     Ok((out, root))
 }
@@ -65,7 +75,7 @@ pub fn of_second(alloc: Global) -> Result<(Vec<u8>, Digest), Memory> {
     let (_, first, second) = values();
     let mut out = Vec::new(alloc);
     put_front(&mut out, 2, &first, 1)?;
-    put_shown(&mut out, &commit())?;
+    put_shown(&mut out, &commit(), 6)?;
     let root = put_auth(alloc, 2, 6, &second.0, &mut out)?;
     Ok((out, root))
 }
@@ -108,7 +118,10 @@ fn malformed_frames_are_named_by_their_field(rt: HostRuntime) -> Result<(), Fail
     assert_eq!(rt; Frame::read(&[0]).err(), Some(Place(0)));
     let (mut bytes, _) = of_both(rt.alloc())?;
     bytes.push(0)?;
-    assert_eq!(rt; Frame::read(&bytes).err(), Some(Place(bytes.len() as u64 - 1)));
+    assert_eq!(rt;
+        Frame::read(&bytes).err(),
+        Some(Place(bytes.len() as u64 - 1))
+    );
     Ok(())
 }
 

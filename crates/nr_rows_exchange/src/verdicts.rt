@@ -8,15 +8,15 @@ use std::alloc::Global;
 use std::test::Fail;
 
 // What is known of the neighbour: its root, the last accepted entry with its value, and the messages to it.
-fn judged(
+fn judged<'a>(
     alloc: Global,
     frame: &[u8],
     root: Digest,
     seq: u64,
     hash: Digest,
-    sent: [&[u8]; 2],
+    sent: [&'a [u8]; 2],
 ) -> Result<Verdict, Fail> {
-    let mut pending = List::new(alloc);
+    let mut pending: List<&'a [u8]> = List::new(alloc);
     pending.push(sent[0])?;
     pending.push(sent[1])?;
     let frame = Frame::read(frame).ok().ok_or("a frame")?;
@@ -55,9 +55,18 @@ fn a_frame_has_to_go_on_from_what_is_kept(rt: HostRuntime) -> Result<(), Fail> {
     let (bytes, root) = of_second(rt.alloc())?;
     let (before, first, second) = values();
     let none: [&[u8]; 2] = [b"", b""];
-    assert_eq!(rt; judged(rt.alloc(), &bytes, root, 0, before, none)?, Verdict::Unlinked);
-    assert_eq!(rt; judged(rt.alloc(), &bytes, root, 1, first, none)?, Verdict::Accepted(0));
-    assert_eq!(rt; judged(rt.alloc(), &bytes, root, 2, second, none)?, Verdict::Old);
+    assert_eq!(rt;
+        judged(rt.alloc(), &bytes, root, 0, before, none)?,
+        Verdict::Unlinked
+    );
+    assert_eq!(rt;
+        judged(rt.alloc(), &bytes, root, 1, first, none)?,
+        Verdict::Accepted(0)
+    );
+    assert_eq!(rt;
+        judged(rt.alloc(), &bytes, root, 2, second, none)?,
+        Verdict::Old
+    );
     assert_eq!(rt;
         judged(rt.alloc(), &bytes, root, 2, first, none)?,
         Verdict::Conflict {
@@ -83,7 +92,10 @@ fn the_first_line_that_applies(rt: HostRuntime) -> Result<(), Fail> {
     let (before, first, _) = values();
     let none: [&[u8]; 2] = [b"", b""];
     // unlinked, too
-    assert_eq!(rt; judged(rt.alloc(), &bytes, first, 0, before, none)?, Verdict::Unsigned);
+    assert_eq!(rt;
+        judged(rt.alloc(), &bytes, first, 0, before, none)?,
+        Verdict::Unsigned
+    );
     // nothing new, too
     assert!(rt;
         matches!(
