@@ -12,7 +12,7 @@ import clock
 from reports import CAUSES
 
 WIDTH, LEFT, BEGIN, END, RIGHT, EDGE = 1200, 16, 188, 840, 858, 1190
-LEAST = 3  # (the width of the shortest bar)
+LEAST = 4  # (the width of the shortest bar)
 INK, FAINT, BAND, LINE, PAPER = "#222222", "#5a5a5a", "#eef1f4", "#d5dade", "#ffffff"
 RUN, CONFLICT, WRONG = "#d55e00", "#0072b2", "#f0e442"
 FONT = "'DejaVu Sans', Verdana, 'Segoe UI', Helvetica, Arial, sans-serif"
@@ -57,11 +57,20 @@ def run_words(run, report):
             f" {clock.lasted(run.length)}{ends} ({run.begin} to {run.end})")
 
 
+def runs_words(runs, drawn):
+    """How many runs are at a prefix, how many of them have a bar where not all do, and how long they lasted."""
+    if drawn < len(runs):
+        return f"{drawn:,} of {len(runs):,} runs drawn"
+    return counted(len(runs), "run") + (f", {together(runs)} in all" if len(runs) > 1 else "")
+
+
 class Picture:
     """An SVG that grows downwards."""
 
     def __init__(self, report):
-        self.report, self.parts, self.under, self.at = report, [], [], HEAD
+        self.report, self.at = report, HEAD
+        # (what is drawn last lies on top)
+        self.lines, self.under, self.parts = [], [], []
 
     def place(self, time):
         """Where a time stands along the axis."""
@@ -103,26 +112,27 @@ class Picture:
     def band(self, title, rest, below=None):
         """The head of a section."""
         height = 40 if below else 24
-        self.under.append(f'<rect x="0" y="{self.at}" width="{WIDTH}" height="{height}" fill="{BAND}"/>')
+        self.under.append(f'<rect x="0" y="{self.at}" width="{WIDTH}" height="{height}" fill="{BAND}" stroke="{LINE}"/>')
         self.parts.append(f'<text x="{LEFT}" y="{self.at + 16}" font-size="12" fill="{FAINT}"><tspan font-size="13"'
-                          f' font-weight="bold" fill="{INK}">{escape(title)}</tspan>{escape("  " + rest)}</text>')
+                          f' font-weight="bold" fill="{INK}">{escape(title)}</tspan><tspan dx="8">{escape(rest)}</tspan></text>')
         if below:
             self.text(LEFT, self.at + 33, textwrap.shorten(below, 150, placeholder=" .."), 11, FAINT)
         self.at += height
 
-    def row(self, left, below, right, under):
+    def row(self, left, below, right, under, size=10.5, fill=FAINT):
         """A row's words: two lines on either side. Gives the middle of the row."""
         y = self.at
         self.text(LEFT + 8, y + 15, left, 12)
         self.text(LEFT + 8, y + 29, below, 10.5, FAINT)
         self.text(RIGHT, y + 15, right, 11)
-        self.text(RIGHT, y + 29, under, 10.5, FAINT)
+        self.text(RIGHT, y + 29, under, size, fill)
         self.at += HEIGHT
         self.under.append(f'<path d="M{LEFT} {self.at}H{EDGE}" stroke="{LINE}" stroke-width="0.5"/>')
         return y + HEIGHT // 2
 
     def note(self, words):
         """A row of words alone."""
+        self.under.append(f'<rect x="0" y="{self.at}" width="{WIDTH}" height="24" fill="{PAPER}"/>')
         self.text(LEFT + 8, self.at + 16, words, 11, FAINT)
         self.at += 24
 
@@ -134,7 +144,7 @@ class Picture:
         if not found:
             return
         self.band("conflicts", counted(len(found), "signed statement") + " of the network that its answer contradicts")
-        y = self.row(entries(found), "contradicted", *halves("the network signed another history than the one it shows"))
+        y = self.row("signed", entries(found), *halves("the network signed another history than the one it shows"), 11, INK)
         for conflict in found[:most]:
             self.diamond(self.place(conflict.time), y, f"conflict: entry {conflict.seq}, {clock.utc(conflict.time)} UTC"
                                                        f" ({conflict.time}), chain value {conflict.value}")
@@ -152,7 +162,7 @@ class Picture:
         for cause, meaning in CAUSES.items():
             of_cause = [entry for entry in found if entry.cause == cause]
             if of_cause:
-                y = self.row(cause, entries(of_cause), *halves(meaning))
+                y = self.row(cause, entries(of_cause), *halves(meaning), 11, INK)
                 marked = [entry for entry in of_cause if id(entry) in drawn]
                 step = min(18, (END - BEGIN - 16) / max(1, len(marked)))
                 for number, entry in enumerate(marked):
@@ -190,9 +200,8 @@ class Picture:
         for prefix, of_prefix in rows.items():
             bars = [run for run in of_prefix if id(run) in drawn]
             if bars:
-                several = f", {together(of_prefix)} in all" if len(of_prefix) > 1 else ""
                 first = of_prefix[0]
-                y = self.row(prefix, counted(len(of_prefix), "run") + several,
+                y = self.row(prefix, runs_words(of_prefix, len(bars)),
                              f"from {clock.utc(first.begin)} for {clock.lasted(first.length)}",
                              f"{first.begin} to {first.end}")
                 for run in sorted(bars, key=lambda run: run.begin):
@@ -210,17 +219,19 @@ class Picture:
         for x, anchor, word, time in ((BEGIN, "start", "from", begin), (END, "end", "to", end)):
             self.text(x, 76, f"{word} {clock.utc(time)}", 12, anchor=anchor, weight="bold")
             self.text(x, 90, str(time), 10.5, FAINT, anchor)
-            self.under.append(f'<path class="period" d="M{x} 94V{self.at}" stroke="{INK}" stroke-width="1.5"/>')
+            self.lines.append(f'<path class="period" d="M{x} 94V{self.at}" stroke="{INK}" stroke-width="1.5"/>')
         times, step = clock.marks(begin, end, 7)
         shown = None
         for time in times:
             x, day = self.place(time), clock.date(time)
-            self.under.append(f'<path d="M{x:.1f} 94V{self.at}" stroke="{LINE}" stroke-width="1"/>')
-            if step < clock.DAY:
-                self.text(x, 108, clock.hour(time, step), 11, anchor="middle")
-            if day != shown:
-                self.text(x, 121, day, 10.5, FAINT, "middle")
-            shown = day
+            self.lines.insert(0, f'<path d="M{x:.1f} 124V{self.at}" stroke="{LINE}" stroke-width="1"/>')
+            # (an end of the period says its time above)
+            if BEGIN + 45 < x < END - 45:
+                if step < clock.DAY:
+                    self.text(x, 108, clock.hour(time, step), 11, anchor="middle")
+                if day != shown:
+                    self.text(x, 121, day, 10.5, FAINT, "middle")
+                shown = day
         self.text(LEFT, 108, "promise", 11, FAINT)
         self.text(LEFT, 121, "and prefix", 11, FAINT)
         self.text(RIGHT, 108, "the longest run, in UTC", 11, FAINT)
@@ -254,7 +265,7 @@ class Picture:
             f'<svg xmlns="http://www.w3.org/2000/svg" width="{WIDTH}" height="{self.at}"'
             f' viewBox="0 0 {WIDTH} {self.at}" role="img" font-family="{FONT}">',
             f"<title>{escape(title)}</title>", f"<desc>{escape(told)}. The period: {escape(period)}.</desc>",
-            f'<rect width="{WIDTH}" height="{self.at}" fill="{PAPER}"/>', *self.under, *self.parts, "</svg>\n"))
+            f'<rect width="{WIDTH}" height="{self.at}" fill="{PAPER}"/>', *self.lines, *self.under, *self.parts, "</svg>\n"))
 
 
 def entries(found):
