@@ -3,8 +3,8 @@
 use crate::tests::{Log, Row, files_of, wrong_row};
 use std::alloc::Global;
 
-// 10.1.0.0/16 is sent to a peer at 5 s, by a message that withdraws and announces it, and withdrawn at 9 s.
-const LONG: Log = Log {
+/// 10.1.0.0/16 is sent to a peer at 5 s, by a message that withdraws and announces it, and withdrawn at 9 s.
+pub const LONG: Log = Log {
     file: b"network 64500;
 commit 60;
 neighbour p as 64501 at 192.0.2.1;

@@ -54,8 +54,8 @@ fn run_request<F: Files, S: Sink>(
 }
 
 /// Runs the command that the words after the program's name ask for, and answers the status. An audit finds the
-/// conflicts, the wrong entries and the broken promises of a whole log; a recording appends turns to a log, and an
-/// answer is that log, signed.
+/// conflicts, the wrong entries and the broken promises of a whole log, and may save evidence of them; a verification
+/// tells which claims of such evidence are true. A recording appends turns to a log, and an answer is that log, signed.
 #[tactic(auto, unfolding(nr_spec_plans::specs::Plans::Runs, nr_spec_plans::specs::Plans::followed_by))]
 pub fn run<F: Files, S: Sink>(alloc: Global, words: &[String], files: &mut F, out: &mut S) -> u8
     ensures { RunsTo (plan_for (map string_bytes words.now))

@@ -1,2 +1,3 @@
 pub mod PlanSteps
 pub mod LogSteps
+pub mod EvidenceSteps

@@ -15,8 +15,8 @@ use Rattle.nr_rule_types.specs.declared.fault.TypeError.{TypeError}
 use Rattle.nr_rule_types.specs.declared.fault.TypeError.TheVariants as typing
 use Rattle.nr_answer.specs.declared.writing.WriteError.{WriteError}
 use Rattle.nr_answer.specs.declared.writing.WriteError.TheVariants as unwritten
-use Rattle.nr_evidence_file.specs.declared.writing.WriteError as evidence
-use Rattle.nr_evidence_file.specs.declared.writing.WriteError.TheVariants as unevidenced
+use Rattle.nr_saving.specs.declared.fault.SaveError.{SaveError}
+use Rattle.nr_saving.specs.declared.fault.SaveError.TheVariants as save
 use Rattle.nr_store.specs.declared.fault.LoadError.{LoadError}
 use Rattle.nr_store.specs.declared.fault.LoadError.TheVariants as load
 use Rattle.nr_store.specs.declared.fault.AppendError.{AppendError}
@@ -42,6 +42,7 @@ input_of input.Auths = command.AuthsInput
 input_of input.Seed = command.SeedInput
 input_of input.Key = command.KeyInput
 input_of input.Log = command.LogInput
+input_of input.Evidence = command.EvidenceInput
 input_of (input.Mrt number) = command.MrtInput number
 
 abbrev pub fact_of : Fact → outcome.Fact
@@ -106,10 +107,11 @@ abbrev pub unanswered_of : WriteError → Stop
 unanswered_of (unwritten.TooLong found) = stop.Refused (refusal.Prevented (log_fact.LongAnswer found))
 unanswered_of unwritten.Memory = stop.Memory
 
--- why evidence that isn't written ends a command
-abbrev pub unproved_of : evidence.WriteError → Stop
-unproved_of (unevidenced.TooLong found) = stop.Refused (refusal.LongEvidence found)
-unproved_of unevidenced.Memory = stop.Memory
+-- why evidence that isn't saved ends a command
+abbrev pub unsaved_of : SaveError → Stop
+unsaved_of (save.TooLong found) = stop.Refused (refusal.LongEvidence found)
+unsaved_of save.Failed = stop.WriteFault
+unsaved_of save.Memory = stop.Memory
 
 abbrev pub promise_file_of : declared_promise.PromiseFile → promises.PromiseFile
 promise_file_of p = record { text = p.text.items; digest = p.digest.0; file = p.file; says = p.says }

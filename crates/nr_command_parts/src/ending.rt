@@ -164,9 +164,6 @@ fn log_fact_ending(alloc: Global, fact: LogFact) -> Result<Ending, AllocError>
     })
 }
 
-// The greatest size of an evidence file in bytes.
-const MOST_EVIDENCE: u64 = 3_221_225_472;
-
 /// The status and the line of a refusal.
 #[tactic(auto, unfolding(nr_spec_program::specs::Command::refusal_ending))]
 pub fn refused(alloc: Global, refusal: Refusal) -> Result<Ending, AllocError>
@@ -202,7 +199,7 @@ pub fn refused(alloc: Global, refusal: Refusal) -> Result<Ending, AllocError>
         Refusal::Refused(fact) => fact_ending(alloc, fact),
         Refusal::Prevented(fact) => log_fact_ending(alloc, fact),
         Refusal::LongEvidence(found) => {
-            let text = limit_line(alloc, "evidence", found, MOST_EVIDENCE)?;
+            let text = limit_line(alloc, "evidence", found, limit_of(Input::Evidence))?;
             Ok(Ending {
                 status: 7,
                 text: text.into_bytes(),

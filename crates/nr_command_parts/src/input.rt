@@ -16,6 +16,7 @@ pub enum Input {
     Seed,
     Key,
     Log,
+    Evidence,
     /// An MRT file, by its number, counted from 1.
     Mrt(usize),
 }
@@ -31,6 +32,7 @@ pub fn name_of(alloc: Global, input: Input) -> Result<String, AllocError>
         Input::Seed => String::from_str(alloc, "seed"),
         Input::Key => String::from_str(alloc, "key"),
         Input::Log => String::from_str(alloc, "log"),
+        Input::Evidence => String::from_str(alloc, "evidence"),
         Input::Mrt(number) => format!(in alloc; "mrt{number}"),
     }
 }
@@ -43,5 +45,6 @@ pub fn limit_of(input: Input) -> u64
         Input::Promise | Input::Seed | Input::Key => 1_048_576,
         Input::Answer | Input::Log | Input::Mrt(_) => 2_147_483_647,
         Input::Auths => 1_073_741_824,
+        Input::Evidence => 3_221_225_472,
     }
 }

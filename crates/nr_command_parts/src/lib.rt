@@ -20,4 +20,4 @@ pub use log_file::{born, has_root, is_of_network, read_log, same_network};
 pub use promise_file::PromiseFile;
 pub use reading::{read_answer, read_auths, read_input, read_promise, read_seed};
 pub use refusal::{Fact, LogFact, Refusal, Stop};
-pub use writing::{write_evidence, write_file};
+pub use writing::write_file;

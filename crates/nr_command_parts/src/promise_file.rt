@@ -10,8 +10,8 @@ use nr_chain::Digest;
 use nr_rule_syntax::File;
 use nr_rule_types::Typed;
 
-/// A promise file: its text, the SHA-256 of that, the tree of that, whose formulas nest at most 64 levels, and what it says
-/// with its names resolved.
+/// A promise file: its text of at most 1,048,576 bytes, the SHA-256 of that, its tree, whose formulas nest at most
+/// 64 levels, and what it says with its names resolved.
 #[derive(Drop)]
 pub struct PromiseFile {
     pub text: Vec<u8>,

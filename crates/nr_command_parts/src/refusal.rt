@@ -3,7 +3,8 @@
 ghost use Rattle.std.specs.Prelude.{◌≡◌};
 ghost use Rattle.nr_command_parts.specs.declared.refusal.Refusal.TheVariants as refusal;
 ghost use Rattle.nr_command_parts.specs.declared.refusal.Stop.TheVariants as stop;
-ghost use Rattle.nr_command_parts.specs.Views.{halt_of, stop_of, unanswered_of, unappended_of, unloaded_of, unproved_of, unread_of, untyped_of};
+ghost use Rattle.nr_command_parts.specs.Views.{halt_of, stop_of, unanswered_of, unappended_of, unloaded_of, unread_of};
+ghost use Rattle.nr_command_parts.specs.Views.{unsaved_of, untyped_of};
 
 use crate::input::Input;
 use nr_answer::WriteError;
@@ -12,6 +13,7 @@ use nr_chain::Digest;
 use nr_ports::{Failed, ReadFault, WriteFault};
 use nr_rule_syntax::ParseError;
 use nr_rule_types::TypeError;
+use nr_saving::SaveError;
 use nr_store::{AppendError, LoadError};
 use std::alloc::{AllocError, AllocFailed};
 
@@ -60,7 +62,7 @@ pub enum Refusal {
     Limit { input: Input, found: u64 },
     /// The file isn't in its grammar.
     Malformed(Input, Place),
-    /// What the files say refuses the audit.
+    /// What the files say refuses the audit, or the evidence.
     Refused(Fact),
     /// What the files say refuses the recording, or the answer.
     Prevented(LogFact),
@@ -194,15 +196,14 @@ impl From<WriteError> for Stop {
     }
 }
 
-impl From<nr_evidence_file::WriteError> for Stop {
-    ghost from_gives = { λ fault e. e ≡ unproved_of fault };
+impl From<SaveError> for Stop {
+    ghost from_gives = { λ fault e. e ≡ unsaved_of fault };
 
-    fn from(fault: nr_evidence_file::WriteError) -> Stop {
+    fn from(fault: SaveError) -> Stop {
         match fault {
-            nr_evidence_file::WriteError::TooLong(found) => {
-                Stop::Refused(Refusal::LongEvidence(found))
-            }
-            nr_evidence_file::WriteError::Memory => Stop::Memory,
+            SaveError::TooLong(found) => Stop::Refused(Refusal::LongEvidence(found)),
+            SaveError::Failed => Stop::WriteFault,
+            SaveError::Memory => Stop::Memory,
         }
     }
 }

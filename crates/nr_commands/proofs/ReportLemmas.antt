@@ -68,7 +68,7 @@ pub broken_parts : (out name prefix span : List ℕ) → out ++ codes "broken " 
 broken_parts out name prefix span = simp append_assoc
 
 -- without marks nothing is marked
-marked_none : (auths : List Authenticator) → marked auths [] ≡ []
+pub marked_none : (auths : List Authenticator) → marked auths [] ≡ []
 marked_none [] = refl
 marked_none (a ∷ auths) = refl
 

@@ -1,19 +1,21 @@
 //! The command `audit`: what an answer shows of a network, and where it contradicts the authenticators that were handed
-//! in.
+//! in. Evidence of that is saved where it is asked for.
 
 ghost use Rattle.std.specs.Prelude.{◌≡◌, ◌<◌, ◌≤◌, length};
 ghost use Rattle.nr_spec_texts.specs.Promises.{audited_by};
-ghost use Rattle.nr_spec_program.specs.Command.{audit_plan, judged};
+ghost use Rattle.nr_spec_evidence.specs.Evidence.{most_answer};
+ghost use Rattle.nr_spec_program.specs.Command.{audit_plan, evidence_of_report, evidence_plan, judged};
 ghost use Rattle.nr_evidence.specs.Views.{period_of};
-ghost use Rattle.nr_audit.specs.Views.{audited_of};
+ghost use Rattle.nr_audit.specs.Views.{audited_of, report_of};
 ghost use Rattle.nr_commands.specs.Unaudited.{unaudited_of};
 ghost use Rattle.nr_command_parts.specs.Views.{Does, Judges as Settled, promise_file_of};
 ghost use Rattle.nr_requests.specs.Views.{audit_request_of};
 ghost use Rattle.nr_command_parts.specs.Endings.{ending_of};
 
+use crate::claims::claims_of;
 use crate::report::report_ending;
 use nr_answer::{Answer, Auths};
-use nr_audit::{Audited, Refusal as Unaudited};
+use nr_audit::{Audited, Refusal as Unaudited, Report};
 use nr_command_parts::{
     Ending, Fact, Input, PromiseFile, Refusal, Stop, read_answer, read_auths, read_input,
     read_promise,
@@ -22,6 +24,7 @@ use nr_discipline::FileNumbers;
 use nr_ports::Files;
 use nr_requests::AuditRequest;
 use nr_rule_eval::Judges;
+use nr_saving::save_evidence;
 use nr_steps::Steps;
 use std::alloc::Global;
 use std::marker::Brand;
@@ -113,36 +116,50 @@ fn judge(
     judge_on::<Brand>(alloc, request, promise, answer, auths, Blank::new(1))
 }
 
-// Writes the evidence of a report, where it isn't too long. All memory is taken before the file is cut.
-#[tactic(auto, using(nr_spec_plans::proofs::PlanLemmas::planning), unfolding(nr_spec_plans::specs::Plans::Runs, nr_spec_plans::specs::Plans::followed_by))]
-fn save_evidence<F: Files>(
+// Saves the evidence of a report, where it is asked for. All memory is taken before the file is cut.
+#[tactic(auto, using(nr_command_parts::proofs::EvidenceSteps::saving_reports))]
+fn save_report<F: Files>(
     alloc: Global,
     files: &mut F,
-    name: &str,
+    request: &AuditRequest<'_>,
     answer: &[u8],
     promise: &PromiseFile,
-    period: &Period,
     report: &Report,
     auths: &Auths<'_>,
 ) -> Result<(), Stop>
     requires { length answer.now ≤ most_answer }
-    ensures { Does (λ done. done) (Room (saving_evidence name.now (evidence_of_report answer.now
-        (promise_file_of promise.now) (period_of period.now) (report_of auths.now report.now))))
-        (F.disk files.old) (F.disk files.new) result }
+    ensures { Does (λ done. done) (evidence_plan (audit_request_of request.now).evidence
+        (evidence_of_report answer.now (promise_file_of promise.now) (period_of request.now.period)
+        (report_of auths.now report.now))) (F.disk files.old) (F.disk files.new) result }
 {
+    let Some(name) = request.evidence else {
+        return Ok(());
+    };
     let claims = claims_of(alloc, report, auths)?;
-    let parts = write_parts(alloc, answer, &promise.text, period, &claims)?;
-    write_evidence(files, name, &parts, answer)
+    match save_evidence(
+        alloc,
+        files,
+        name,
+        answer,
+        &promise.text,
+        &request.period,
+        &claims,
+    ) {
+        Ok(()) => Ok(()),
+        Err(fault) => Err(Stop::from(fault)),
+    }
 }
 
-/// What the request gives: the report, or the first thing that stops it.
+/// What the request gives: the report, or the first thing that stops it. Evidence is saved where it is asked for, after
+/// all that the text wants of memory.
 #[tactic(auto, using(nr_spec_plans::proofs::PlanLemmas::planning, nr_command_parts::proofs::PlanSteps::settling), unfolding(nr_spec_program::specs::Command::audit_plan, nr_spec_plans::specs::Plans::Runs, nr_spec_plans::specs::Plans::followed_by))]
 pub fn audit<F: Files>(
     alloc: Global,
     files: &mut F,
     request: &AuditRequest<'_>,
 ) -> Result<Ending, Stop>
-    ensures { Does ending_of (audit_plan (audit_request_of request.now)) (F.disk files.old) (F.disk files.new) result }
+    ensures { Does ending_of (audit_plan (audit_request_of request.now))
+        (F.disk files.old) (F.disk files.new) result }
 {
     let promise = read_promise(alloc, files, request.promise)?;
     let answer_bytes = read_input(alloc, files, Input::Answer, request.answer)?;
@@ -151,8 +168,14 @@ pub fn audit<F: Files>(
     let auths = read_auths(&auths_bytes)?;
     let report = judge(alloc, request, &promise, &answer, &auths)?;
     let ending = report_ending(alloc, &[audited_by(&promise)], &report, &auths)?;
-    if let Some(name) = request.evidence {
-        save_evidence(alloc, files, name, &answer_bytes, &promise, &request.period, &report, &auths)?;
-    }
+    save_report(
+        alloc,
+        files,
+        request,
+        &answer_bytes,
+        &promise,
+        &report,
+        &auths,
+    )?;
     Ok(ending)
 }

@@ -8,6 +8,7 @@ ghost use Rattle.nr_command_parts.specs.Endings.{ending_of};
 use crate::audit::audit;
 use crate::check::check_promise;
 use crate::keygen::keygen;
+use crate::verify::verify;
 use nr_command_parts::{Ending, Stop};
 use nr_log_commands::{answer, record_events};
 use nr_ports::Files;
@@ -29,5 +30,6 @@ pub fn perform<F: Files>(
         Request::Check(check_request) => check_promise(alloc, files, check_request),
         Request::Record(record_request) => record_events(alloc, files, record_request),
         Request::Answer(answer_request) => answer(alloc, files, answer_request),
+        Request::Verify(verify_request) => verify(alloc, files, verify_request),
     }
 }

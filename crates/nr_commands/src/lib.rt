@@ -3,8 +3,10 @@
 
 mod audit;
 mod check;
+mod claims;
 mod commands;
 mod keygen;
 mod report;
+mod verify;
 
 pub use commands::perform;

@@ -22,17 +22,17 @@ use Rattle.nr_laws_program.proofs.FileLaws.{runs_for}
 
 -- ---- the two parts of an audit
 
-abbrev evidence_for : AuditRequest → Reported → EvidenceFile
+abbrev pub evidence_for : AuditRequest → Reported → EvidenceFile
 evidence_for q r = evidence_of_report r.answer r.promise q.period r.report
 
 -- the second part, once there is a report
-abbrev kept : AuditRequest → Reported → Work Ending
+abbrev pub kept : AuditRequest → Reported → Work Ending
 kept q r = evidence_plan q.evidence (evidence_for q r) >>= λ saved. Done (audit_ending r.promise r.report)
 
-abbrev rest : AuditRequest → Reported → Work Ending
+abbrev pub rest : AuditRequest → Reported → Work Ending
 rest q r = want >>= λ room. kept q r
 
-audit_parts : (q : AuditRequest) → (reported_plan q >>= rest q) ≡ plan_of (Audit q)
+pub audit_parts : (q : AuditRequest) → (reported_plan q >>= rest q) ≡ plan_of (Audit q)
 unfolding plan_of audit_plan reported_plan followed_by
 audit_parts q =
     together_so (promise_plan q.promise) _ (rest q) _ (λ promise.
@@ -44,7 +44,7 @@ audit_parts q =
 
 -- ---- what was saved
 
-told_well : (inner : Result (Unit {0}) (Halt TooLong)) (x : Unit {0}) → ◌≡◌ {A = Result (Unit {0}) (Halt Refusal)} (Ok x) (halting long_evidence inner) → inner ≡ Ok tt
+pub told_well : (inner : Result (Unit {0}) (Halt TooLong)) (x : Unit {0}) → ◌≡◌ {A = Result (Unit {0}) (Halt Refusal)} (Ok x) (halting long_evidence inner) → inner ≡ Ok tt
 told_well (Ok y) x is = refl
 told_well (Err (Refused refusal)) x is = absurd cc
 told_well (Err (Faulted fault)) x is = absurd cc
@@ -94,7 +94,7 @@ audit_saves_in q name old new ending is (inr runs) = audit_saves q name old new 
 -- ---- a status of 0 or 1
 
 -- the statuses of a report
-abbrev IsReports : ℕ → Type 0
+abbrev pub IsReports : ℕ → Type 0
 IsReports status = (status ≡ 0) ⊎ (status ≡ 1)
 
 reports_low : (status : ℕ) → IsReports status → status ≤ 1
@@ -114,17 +114,17 @@ of_ending : (e last : Ending) → e ≡ last → IsReports e.status → IsReport
 of_ending e last is low = subst (λ (x : Ending). IsReports x.status) is low
 
 -- what a run gave that has such an ending
-record Gave (plan : Work Ending) (old new : disk.Disk) (e : Ending) : Type 0 where
+pub record Gave (plan : Work Ending) (old new : disk.Disk) (e : Ending) : Type 0 where
   pub runs : Runs plan old new (Ok e)
 
-gave_report : (plan : Work Ending) (old new : disk.Disk) (result : Result Ending (Halt Refusal)) (e : Ending) → Runs plan old new result → Concludes result e → IsReports e.status → Gave plan old new e
+pub gave_report : (plan : Work Ending) (old new : disk.Disk) (result : Result Ending (Halt Refusal)) (e : Ending) → Runs plan old new result → Concludes result e → IsReports e.status → Gave plan old new e
 gave_report plan old new (Ok ending) e runs is low = record { runs = subst (λ (x : Ending). Runs plan old new (Ok x)) (sym is) runs }
 gave_report plan old new (Err (Refused refusal)) e runs (inl is) low = absurd (high_three (refusal_ending refusal).status (refusal_status refusal) (of_ending e (refusal_ending refusal) is low))
 gave_report plan old new (Err (Refused refusal)) e runs (inr is) low = absurd (high_fault disk.Memory (of_ending e (fault_ending disk.Memory) is low))
 gave_report plan old new (Err (Faulted fault)) e runs is low = absurd (high_fault fault (of_ending e (fault_ending fault) is low))
 
 -- an ending of such a status, whether or not the sink took it
-is_report : (e : Ending) (got : Result (Unit {0}) disk.Fault) (status : ℕ) → Answers e got status → Answered IsReports e status → IsReports e.status
+pub is_report : (e : Ending) (got : Result (Unit {0}) disk.Fault) (status : ℕ) → Answers e got status → Answered IsReports e status → IsReports e.status
 is_report e got status is answered = answered_so IsReports e got status (λ five. let l = reports_low 5 five in omega (arith, l)) (λ six. let l = reports_low 6 six in omega (arith, l)) is answered
 
 pub run_saves_evidence : (words : List (List ℕ)) (q : AuditRequest) (name : List ℕ) (old new : disk.Disk) (before after : disk.Tape) (status : ℕ) → request_in words ≡ Some (Audit q) → q.evidence ≡ Some name

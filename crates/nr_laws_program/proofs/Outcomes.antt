@@ -42,7 +42,7 @@ refusing_apart held as_said (Act action next) value is = refusing_apart held as_
 
 -- ---- files
 
-sized_gives : (held : Contents) (input : Input) (size : Option ℕ) (n : ℕ) → outcome held (sized input size) ≡ Ok n → size ≡ Some n
+pub sized_gives : (held : Contents) (input : Input) (size : Option ℕ) (n : ℕ) → outcome held (sized input size) ≡ Ok n → size ≡ Some n
 sized_gives held input None n is = absurd cc
 sized_gives held input (Some found) n is = elim (cases_Bool (nat_le found (input_limit input))) [ inl by ↦ (let e = rw by at is in cc) | inr by ↦ absurd (let e = rw by at is in cc) ]
 

@@ -174,7 +174,7 @@ MayReply q old new t =
 pub same_holds : (old mid new : disk.Disk) → new ≡ mid → option_map (λ t. t.holds) mid.told ≡ option_map (λ t. t.holds) old.told → option_map (λ t. t.holds) new.told ≡ option_map (λ t. t.holds) old.told
 same_holds old mid new same holds = ap (λ (d : disk.Disk). option_map (λ (t : disk.Told). t.holds) d.told) same ∙ holds
 
-one_held : (other : List ℕ) (old new : Option disk.Told) (m u : disk.Told) → old ≡ Some m → new ≡ Some u → option_map (λ t. t.holds other) new ≡ option_map (λ t. t.holds other) old → u.holds other ≡ m.holds other
+pub one_held : (other : List ℕ) (old new : Option disk.Told) (m u : disk.Told) → old ≡ Some m → new ≡ Some u → option_map (λ t. t.holds other) new ≡ option_map (λ t. t.holds other) old → u.holds other ≡ m.holds other
 one_held other old new m u was is same = let e : Some (u.holds other) ≡ Some (m.holds other) = ap (option_map (λ (t : disk.Told). t.holds other)) (sym is) ∙ same ∙ ap (option_map (λ (t : disk.Told). t.holds other)) was in cc
 
 kept_spares : (q : AnswerRequest) (answer : AnswerFile) (other : List ℕ) → other ≢ q.out → Each (SparesContents other) (kept q answer)

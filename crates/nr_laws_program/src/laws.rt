@@ -7,7 +7,16 @@ ghost use Rattle.nr_spec_plans.specs.Plans.{Refused};
 ghost use Rattle.nr_spec_plans.specs.Steps.{DoneBy, OnlyBy};
 ghost use Rattle.nr_spec_history.specs.KeyFiles.{Key, key_file};
 ghost use Rattle.nr_spec_log.specs.Answer.{AnswerFile, answer_file};
-ghost use Rattle.nr_spec_commands.specs.Words.{Answer, AnswerRequest, Audit, AuditRequest, Keygen, KeygenRequest, Request, request_in};
+ghost use Rattle.nr_spec_commands.specs.Words.{
+  Answer,
+  AnswerRequest,
+  Audit,
+  AuditRequest,
+  Keygen,
+  KeygenRequest,
+  Request,
+  request_in,
+};
 ghost use Rattle.nr_spec_program.specs.Command.{Ending, Refusal, Work, fault_ending, key_plan};
 ghost use Rattle.nr_spec_program.specs.Recording.{answered_ending};
 ghost use Rattle.nr_spec_program.specs.Table.{plan_for, plan_of};
@@ -141,9 +150,9 @@ pub fn keygen_may_leave()
         × ((u : Told) × (new.told ≡ Some u) × IsLeftBy (key_file key) (t.holds q.key) (u.holds q.key))) }
 {}
 
-/// Where an `audit` that is to save evidence answers 0 or 1, or has such an ending and the sink fails, the evidence file
-/// was cut, written in its pieces and synced, whatever the files tell; the evidence is that of the report whose text is
-/// offered, and of the bytes of the answer that were read for it. Nothing else is done after that.
+/// Where an `audit` that is to save evidence answers 0 or 1, or has such an ending and the sink fails, the evidence
+/// file was cut, written in its pieces and synced, whatever the files tell; the evidence is that of the report whose
+/// text is offered, and of the bytes of the answer that were read for it. Behind that only the text is offered.
 pub fn audit_saves_its_evidence()
     ensures { (words : List (List ℕ)) (q : AuditRequest) (name : List ℕ) (old new : Disk) (before after : Tape)
         (status : ℕ) → request_in words ≡ Some (Audit q) → q.evidence ≡ Some name

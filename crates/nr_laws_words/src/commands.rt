@@ -2,7 +2,16 @@
 
 ghost use Rattle.std.specs.Prelude.{◌≡◌, ◌↔◌, ◌∷◌, ℕ, List, Some};
 ghost use Rattle.nr_words.specs.Grammar.{Values, values_in};
-ghost use Rattle.nr_spec_commands.specs.Words.{Request, answer_grammar, audit_grammar, check_grammar, keygen_grammar, record_grammar, request_in, verify_grammar};
+ghost use Rattle.nr_spec_commands.specs.Words.{
+  Request,
+  answer_grammar,
+  audit_grammar,
+  check_grammar,
+  keygen_grammar,
+  record_grammar,
+  request_in,
+  verify_grammar,
+};
 ghost use Rattle.nr_laws_words.specs.Commands.{Asks};
 ghost use Rattle.nr_laws_words.specs.Pairs.{Gives};
 

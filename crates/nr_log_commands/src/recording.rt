@@ -120,8 +120,20 @@ fn replayed(core: Core, store: &Store) -> Result<Core, Memory>
     Ok(core)
 }
 
-// The recorder of a log; one that isn't born has no entries.
+// A recorder without entries, by its own promise file and key.
 #[tactic(auto, using(crate::proofs::Prepared::preparing))]
+fn fresh(alloc: Global, promise: PromiseFile, key: Key, tree: Tree) -> Result<Core, Memory>
+    requires { tree ≡ tree_of key.seed.0 key.height }
+    ensures { IfOk result (λ core. core ≡ kept_by (promise_file_of promise) (key_view key) []) }
+{
+    let own = Own {
+        typed: promise.says,
+        file: promise.digest,
+    };
+    Core::new(alloc, own, key.asn, key.seed, tree)
+}
+
+// The recorder of a log; one that isn't born has no entries.
 fn prepare(
     alloc: Global,
     promise: PromiseFile,
@@ -133,11 +145,7 @@ fn prepare(
     ensures { IfOk result (λ core. core
         ≡ kept_by (promise_file_of promise) (key_view key) (entries_in found.now)) }
 {
-    let own = Own {
-        typed: promise.says,
-        file: promise.digest,
-    };
-    let core = Core::new(alloc, own, key.asn, key.seed, tree)?;
+    let core = fresh(alloc, promise, key, tree)?;
     match found {
         None => Ok(core),
         Some(store) => replayed(core, store),

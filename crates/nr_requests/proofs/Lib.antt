@@ -1,2 +1,2 @@
 pub mod WordLemmas
-pub mod AuditWordLemmas
+pub mod AskedLemmas

@@ -7,6 +7,7 @@ use Rattle.nr_requests.specs.declared.key_request.KeygenRequest as declared_keyg
 use Rattle.nr_requests.specs.declared.request.CheckRequest as declared_check
 use Rattle.nr_requests.specs.declared.record_request.RecordRequest as declared_record
 use Rattle.nr_requests.specs.declared.answer_request.AnswerRequest as declared_answer
+use Rattle.nr_requests.specs.declared.verify_request.VerifyRequest as declared_verify
 use Rattle.nr_requests.specs.declared.request.Request.{Request}
 use Rattle.nr_requests.specs.declared.request.Request.TheVariants as request
 
@@ -38,9 +39,13 @@ record_request_of q = record {
 abbrev pub answer_request_of : declared_answer.AnswerRequest → words.AnswerRequest
 answer_request_of q = record { key = q.key.now; log = q.log.now; out = q.out.now }
 
+abbrev pub verify_request_of : declared_verify.VerifyRequest → words.VerifyRequest
+verify_request_of q = record { root = q.root.0; evidence = q.evidence.now }
+
 abbrev pub request_of : Request → words.Request
 request_of (request.Audit q) = words.Audit (audit_request_of q)
 request_of (request.Keygen q) = words.Keygen (keygen_request_of q)
 request_of (request.Check q) = words.Check (check_request_of q)
 request_of (request.Record q) = words.Record (record_request_of q)
 request_of (request.Answer q) = words.Answer (answer_request_of q)
+request_of (request.Verify q) = words.Verify (verify_request_of q)

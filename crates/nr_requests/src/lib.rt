@@ -8,8 +8,10 @@ mod record_request;
 mod request;
 mod roots;
 mod values;
+mod verify_request;
 
 pub use answer_request::AnswerRequest;
 pub use key_request::KeygenRequest;
 pub use record_request::RecordRequest;
 pub use request::{AuditRequest, CheckRequest, Request, request_from};
+pub use verify_request::VerifyRequest;

@@ -3,7 +3,9 @@
 ghost use Rattle.std.specs.Prelude.{◌≡◌, ◌∷◌, map, option_map, IfOk};
 ghost use Rattle.std.specs.String.{string_bytes};
 ghost use Rattle.nr_words.specs.Views.{given_by};
-ghost use Rattle.nr_spec_commands.specs.Words.{are_apart, named, answer_request, audit_in, audit_request, check_in, check_request, keygen_in, keygen_request, record_request, request_in};
+ghost use Rattle.nr_spec_commands.specs.Words.{are_apart, named, answer_request, audit_in, audit_request, check_in};
+ghost use Rattle.nr_spec_commands.specs.Words.{check_request, keygen_in, keygen_request, record_request, request_in};
+ghost use Rattle.nr_spec_commands.specs.Words.{verify_request};
 ghost use Rattle.nr_requests.specs.Views.{audit_request_of, check_request_of, keygen_request_of, request_of};
 
 use crate::answer_request::{ANSWER, AnswerRequest, answer_from};
@@ -12,6 +14,7 @@ use crate::numbers::{number_between, number_of, period_from};
 use crate::record_request::{RECORD, RecordRequest, record_from};
 use crate::roots::root_in;
 use crate::values::value_of;
+use crate::verify_request::{VERIFY, VerifyRequest, verify_from};
 use nr_bytes::Memory;
 use nr_chain::Digest;
 use nr_evidence::Period;
@@ -115,11 +118,13 @@ pub enum Request<'a> {
     Check(CheckRequest<'a>),
     Record(RecordRequest<'a>),
     Answer(AnswerRequest<'a>),
+    Verify(VerifyRequest<'a>),
 }
 
 // Whether no two names of an audit are equal.
 fn are_names_apart(promise: &str, answer: &str, auths: &str, evidence: Option<&str>) -> bool
-    ensures { result ≡ are_apart (promise.now ∷ answer.now ∷ auths.now ∷ named (option_map (λ s. s.now) evidence.entry)) }
+    ensures { result ≡ are_apart (promise.now ∷ answer.now ∷ auths.now
+        ∷ named (option_map (λ s. s.now) evidence.entry)) }
 {
     match evidence {
         None => !(promise == answer || promise == auths) && answer != auths,
@@ -247,6 +252,18 @@ fn answer_words<'a>(alloc: Global, words: &'a [String]) -> Result<Option<Request
     }
 }
 
+fn verify_words<'a>(alloc: Global, words: &'a [String]) -> Result<Option<Request<'a>>, Memory>
+    ensures { IfOk result (λ request. option_map request_of request ≡ verify_request (map string_bytes words.now)) }
+{
+    let Some(values) = values_of(alloc, &VERIFY, words)? else {
+        return Ok(None);
+    };
+    match verify_from(&values) {
+        None => Ok(None),
+        Some(verifying) => Ok(Some(Request::Verify(verifying))),
+    }
+}
+
 /// What the words ask for. `None` exactly where they aren't taken.
 #[tactic(auto, unfolding(nr_spec_commands::specs::Words::request_in))]
 pub fn request_from<'a>(alloc: Global, words: &'a [String]) -> Result<Option<Request<'a>>, Memory>
@@ -269,6 +286,9 @@ pub fn request_from<'a>(alloc: Global, words: &'a [String]) -> Result<Option<Req
     }
     if command.as_str() == "answer" {
         return answer_words(alloc, words);
+    }
+    if command.as_str() == "verify" {
+        return verify_words(alloc, words);
     }
     Ok(None)
 }

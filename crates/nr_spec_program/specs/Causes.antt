@@ -37,8 +37,8 @@ pub record NoneRose (old new : Disk) (before after : Tape) : Type 0 where
 
 -- ---- what ended the work
 
--- The endings of a request that nothing stopped. That of an audit tells what an answer and authenticators show by a
--- promise file.
+-- The endings of a request that nothing stopped, by whatever its files held; that these are what was read is the plan's
+-- to say. That of an audit tells what an answer and authenticators show by a promise file.
 abbrev pub EndOf : Request → Ending → Type 0
 EndOf (Audit q) e =
     (promise : PromiseFile) × (answer : AnswerFile) × (auths : List Authenticator) × (report : Report)

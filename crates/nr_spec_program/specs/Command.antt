@@ -85,7 +85,7 @@ pub data Refusal : Type 0 where
   Limit : (input : Input) (found : ℕ) → Refusal
   -- the file isn't in its grammar; the place of the first malformed field
   Malformed : (input : Input) (place : ℕ) → Refusal
-  -- what the files say refuses the audit, or the evidence
+  -- what the files say refuses the audit, or the check of evidence
   Refused : (fact : Fact) → Refusal
   -- what the files say refuses the recording, or the answer
   Prevented : (fact : LogFact) → Refusal

@@ -20,7 +20,7 @@ abbrev pub read_from : {A : Type 0} → (offset : ℕ) → Result A ℕ → Resu
 read_from offset (Ok value) = Ok value
 read_from offset (Err place) = Err (Malformed (offset + place))
 
--- A period that runs back is malformed at its end.
+-- A period that runs back is malformed at the field `to`.
 abbrev pub ordered : EvidenceFile → Result (Unit {0}) Refusal
 ordered e = if nat_le e.period.from e.period.to then Ok tt else Err (Malformed (to_offset e.answer e.promise))
 

@@ -3,4 +3,4 @@ use Rattle.nr_command_parts.proofs.PlanSteps.{load_within}
 use Rattle.nr_command_parts.proofs.reading.read_promise.Goals as goal
 
 pub promise_from-requires : goal.promise_from-requires
-promise_from-requires g c = rw c.deref.ensures.value (load_within PromiseInput _ _ _ _ c.in_ok-text.ensures)
+promise_from-requires g c = load_within PromiseInput _ _ _ _ c.in_ok-text.ensures

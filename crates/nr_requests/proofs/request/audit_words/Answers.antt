@@ -1,19 +1,20 @@
 use Rattle.std.proofs.Common.{None, Some, sym, ap, ◌∙◌}
 use Rattle.std.specs.Prelude.{option_map}
 use Rattle.nr_words.specs.Views.{given_by}
+use Rattle.nr_spec_commands.specs.Words.{Audit, audit_grammar, audit_in}
 use Rattle.nr_requests.specs.Views.{audit_request_of}
-use Rattle.nr_requests.proofs.AuditWordLemmas.{audit_asked, audit_for}
+use Rattle.nr_requests.proofs.AskedLemmas.{asked_for, is_asked}
 use Rattle.nr_requests.proofs.request.audit_words.Goals as goal
 
 pub returns-in_default : goal.returns-in_default
-returns-in_default c = audit_asked None _ (ap (option_map given_by) (sym c.in_default.is) ∙ c.in_ok-values.ensures)
+returns-in_default c = is_asked Audit audit_in audit_grammar None _ (ap (option_map given_by) (sym c.in_default.is) ∙ c.in_ok-values.ensures)
 
 pub returns-in-None : goal.returns-in-None
 returns-in-None c =
-    ap audit_for (ap (option_map audit_request_of) (sym c.in-None.is) ∙ c.audit_from.ensures)
-    ∙ audit_asked (Some (given_by c.in-Some.values)) _ (ap (option_map given_by) (sym c.in-Some.is) ∙ c.in_ok-values.ensures)
+    ap (asked_for Audit) (ap (option_map audit_request_of) (sym c.in-None.is) ∙ c.audit_from.ensures)
+    ∙ is_asked Audit audit_in audit_grammar (Some (given_by c.in-Some.values)) _ (ap (option_map given_by) (sym c.in-Some.is) ∙ c.in_ok-values.ensures)
 
 pub returns : goal.returns
 returns c =
-    ap audit_for (ap (option_map audit_request_of) (sym c.in-Some-audit_from.is) ∙ c.audit_from.ensures)
-    ∙ audit_asked (Some (given_by c.in-Some.values)) _ (ap (option_map given_by) (sym c.in-Some.is) ∙ c.in_ok-values.ensures)
+    ap (asked_for Audit) (ap (option_map audit_request_of) (sym c.in-Some-audit_from.is) ∙ c.audit_from.ensures)
+    ∙ is_asked Audit audit_in audit_grammar (Some (given_by c.in-Some.values)) _ (ap (option_map given_by) (sym c.in-Some.is) ∙ c.in_ok-values.ensures)
