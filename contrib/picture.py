@@ -112,9 +112,11 @@ class Picture:
     def band(self, title, rest, below=None):
         """The head of a section."""
         height = 40 if below else 24
-        self.under.append(f'<rect x="0" y="{self.at}" width="{WIDTH}" height="{height}" fill="{BAND}" stroke="{LINE}"/>')
+        self.under.append(f'<rect x="0" y="{self.at}" width="{WIDTH}" height="{height}" fill="{BAND}"'
+                          f' stroke="{LINE}"/>')
         self.parts.append(f'<text x="{LEFT}" y="{self.at + 16}" font-size="12" fill="{FAINT}"><tspan font-size="13"'
-                          f' font-weight="bold" fill="{INK}">{escape(title)}</tspan><tspan dx="8">{escape(rest)}</tspan></text>')
+                          f' font-weight="bold" fill="{INK}">{escape(title)}</tspan><tspan dx="8">{escape(rest)}'
+                          "</tspan></text>")
         if below:
             self.text(LEFT, self.at + 33, textwrap.shorten(below, 150, placeholder=" .."), 11, FAINT)
         self.at += height
@@ -144,7 +146,8 @@ class Picture:
         if not found:
             return
         self.band("conflicts", counted(len(found), "signed statement") + " of the network that its answer contradicts")
-        y = self.row("signed", entries(found), *halves("the network signed another history than the one it shows"), 11, INK)
+        meaning = "the network signed another history than the one it shows"
+        y = self.row("signed", entries(found), *halves(meaning), 11, INK)
         for conflict in found[:most]:
             self.diamond(self.place(conflict.time), y, f"conflict: entry {conflict.seq}, {clock.utc(conflict.time)} UTC"
                                                        f" ({conflict.time}), chain value {conflict.value}")
@@ -174,7 +177,8 @@ class Picture:
     def left_over(self, count, one, many=None):
         """Says how many marks aren't drawn."""
         if count > 0:
-            self.note(f"{counted(count, 'more ' + one, many and 'more ' + many)} without a mark: the first ones have one")
+            more = counted(count, "more " + one, many and "more " + many)
+            self.note(f"{more} without a mark: the first ones have one")
 
     def promises(self, most):
         """The promises in the order of their file, and under each the prefixes at which it was broken."""
@@ -190,7 +194,7 @@ class Picture:
                                         f" {together(runs)} in all", promise.formula)
                 self.prefixes(runs, drawn)
             else:
-                self.band(promise.name, f"{grace}; no run was found")
+                self.band(promise.name, f"{grace}; no broken run")
 
     def prefixes(self, runs, drawn):
         """The prefixes at which a promise was broken, that with the longest run first. Says what isn't drawn."""
@@ -265,7 +269,8 @@ class Picture:
             f'<svg xmlns="http://www.w3.org/2000/svg" width="{WIDTH}" height="{self.at}"'
             f' viewBox="0 0 {WIDTH} {self.at}" role="img" font-family="{FONT}">',
             f"<title>{escape(title)}</title>", f"<desc>{escape(told)}. The period: {escape(period)}.</desc>",
-            f'<rect width="{WIDTH}" height="{self.at}" fill="{PAPER}"/>', *self.lines, *self.under, *self.parts, "</svg>\n"))
+            f'<rect width="{WIDTH}" height="{self.at}" fill="{PAPER}"/>', *self.lines, *self.under,
+            *self.parts, "</svg>\n"))
 
 
 def entries(found):

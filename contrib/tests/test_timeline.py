@@ -115,7 +115,7 @@ class Pictures(unittest.TestCase):
         told = words_of(drawn([broken(5, 60)]))
         self.assertIn("short", told)
         self.assertIn("reachable", told)
-        self.assertIn("grace 0 s; no run was found", told)
+        self.assertIn("grace 0 s; no broken run", told)
 
     def test_the_longest_runs_first(self):
         lines = [broken(1, 40, prefix="10.0.0.0/8"), broken(1, 900, prefix="11.0.0.0/8"),
@@ -249,7 +249,8 @@ class Faults(unittest.TestCase):
     def test_a_report_that_is_cut(self):
         text = (broken(5, 60) + "\n").encode()
         for size in range(len(text)):
-            status, out, told = PROGRAM.run("--promise", "p", "--report", "r", *ENDS, p=PROMISES.encode(), r=text[:size])
+            files = {"p": PROMISES.encode(), "r": text[:size]}
+            status, out, told = PROGRAM.run("--promise", "p", "--report", "r", *ENDS, **files)
             self.assertEqual((status, out, len(told)), (1, None, 1))
 
     def test_bytes_that_are_no_text(self):
@@ -271,8 +272,8 @@ class Faults(unittest.TestCase):
         self.assertEqual(run(["clean"], "--from", "5", "--to", "4")[::2], (1, ["timeline: --from is above --to"]))
         status, _, told = PROGRAM.run("--promise", "/no/such/file", *ENDS)
         self.assertEqual((status, len(told)), (1, 1))
-        for words in (("--from", "-1", "--to", "4"), ("--from", "x", "--to", "4"), ("--from", "0", "--to", str(1 << 63)),
-                      (*ENDS, "--most", "0"), ("--from", "0")):
+        for words in (("--from", "-1", "--to", "4"), ("--from", "x", "--to", "4"),
+                      ("--from", "0", "--to", str(1 << 63)), (*ENDS, "--most", "0"), ("--from", "0")):
             with self.assertRaises(SystemExit):
                 run(["clean"], *words)
 
@@ -282,8 +283,8 @@ class Times(unittest.TestCase):
 
     def test_days(self):
         for day, date in ((0, "1970-01-01"), (59, "1970-03-01"), (789, "1972-02-29"), (11_016, "2000-02-29"),
-                          (11_017, "2000-03-01"), (20_454, "2026-01-01"), (47_540, "2100-02-28"), (47_541, "2100-03-01"),
-                          (106_751_991, "294247-01-10")):
+                          (11_017, "2000-03-01"), (20_454, "2026-01-01"), (47_540, "2100-02-28"),
+                          (47_541, "2100-03-01"), (106_751_991, "294247-01-10")):
             self.assertEqual(clock.date(day * clock.DAY + clock.DAY - 1), date)
 
     def test_lengths(self):
