@@ -246,7 +246,11 @@ def read_file(name):
 
 def write_file(name, records):
     """Writes records to a file, or to standard output."""
-    data = b"".join(record.encode() for record in records)
+    write_bytes(name, b"".join(record.encode() for record in records))
+
+
+def write_bytes(name, data):
+    """Writes a file, or to standard output."""
     if name == "-":
         sys.stdout.buffer.write(data)
         sys.stdout.buffer.flush()

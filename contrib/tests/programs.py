@@ -10,7 +10,7 @@ import tempfile
 
 HERE = pathlib.Path(__file__).resolve().parent
 TOP = HERE.parent.parent
-for folder in (HERE.parent, TOP / "bench"):
+for folder in (HERE.parent, TOP / "bench", TOP / "examples"):
     sys.path.insert(0, str(folder))
 
 import recording

@@ -1,5 +1,5 @@
 -- Saving evidence as a step of this program's plans.
-use Rattle.std.proofs.Common.{◌≡◌, List, ℕ, None, Some, Result, Ok, Err, refl, inl}
+use Rattle.std.proofs.Common.{◌≡◌, List, ℕ, None, Some, Ok, Err, refl, inl}
 use Rattle.nr_spec_plans.specs.Disk.{Disk, Memory}
 use Rattle.nr_spec_plans.specs.Plans.{Faulted, Runs}
 use Rattle.nr_spec_plans.proofs.PlanLemmas.{refused_as}

@@ -1,11 +1,11 @@
 -- Loading a log, and bearing one, as steps of this program's plans, and what the file has after them.
-use Rattle.std.proofs.Common.{◌≡◌, ◌≢◌, ◌∙◌, ℕ, ◌<◌, ◌^◌, Bool, true, false, cond, List, [], ◌∷◌, length, Option, None, Some, Result, Ok, Err, ap, refl, sym, subst, arith}
+use Rattle.std.proofs.Common.{◌≡◌, ◌≢◌, ◌∙◌, ℕ, ◌<◌, ◌^◌, Bool, true, false, cond, List, ◌∷◌, length, Option, None, Some, Result, Ok, Err, ap, refl, sym, subst, arith}
 use Rattle.std.specs.Prelude.{IfSome, nat_lt, option_map}
 use Rattle.nr_spec_plans.specs.Disk.{Disk, Told, bytes_of}
 use Rattle.nr_spec_plans.specs.Plans.{Halt, Runs, halting, refusing}
 use Rattle.nr_spec_plans.proofs.PlanLemmas.{refused_as}
 use Rattle.nr_spec_log.specs.Authenticator.{digest_size}
-use Rattle.nr_spec_store.specs.LogFile.{IsLog, LogFile, born, log_of, most_log}
+use Rattle.nr_spec_store.specs.LogFile.{IsLog, LogFile, log_of, most_log}
 use Rattle.nr_spec_store.specs.StorePlans.{Limit, Refusal, birth_plan, load_plan, loading, refused_at}
 use Rattle.nr_spec_store.specs.StoreCrashes.{Keeps}
 use Rattle.nr_laws_crash.proofs.CrashLaws.{field_kept, was_told}

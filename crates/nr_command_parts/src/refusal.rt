@@ -3,7 +3,8 @@
 ghost use Rattle.std.specs.Prelude.{◌≡◌};
 ghost use Rattle.nr_command_parts.specs.declared.refusal.Refusal.TheVariants as refusal;
 ghost use Rattle.nr_command_parts.specs.declared.refusal.Stop.TheVariants as stop;
-ghost use Rattle.nr_command_parts.specs.Views.{halt_of, stop_of, unanswered_of, unappended_of, unloaded_of, unread_of, unsaved_of, untyped_of};
+ghost use Rattle.nr_command_parts.specs.Views.{halt_of, stop_of, unanswered_of, unappended_of, unloaded_of, unread_of};
+ghost use Rattle.nr_command_parts.specs.Views.{unsaved_of, untyped_of};
 
 use crate::input::Input;
 use nr_answer::WriteError;

@@ -1,5 +1,5 @@
 -- The claims of a report.
-use Rattle.std.proofs.Common.{◌≡◌, ℕ, ◌≤◌, Bool, List, [], ◌++◌, append-nil, length, drop, sym, ap, ◌∙◌}
+use Rattle.std.proofs.Common.{◌≡◌, ℕ, ◌≤◌, Bool, List, ◌++◌, append-nil, length, drop, sym, ap, ◌∙◌}
 use Rattle.std.specs.Prelude.{map}
 use Rattle.std.proofs.lemmas.List.{drop_all}
 use Rattle.nr_spec_log.specs.Authenticator.{Authenticator}

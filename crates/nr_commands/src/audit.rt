@@ -150,15 +150,16 @@ fn save_report<F: Files>(
     }
 }
 
-/// What the request gives: the report, or the first thing that stops it. Where evidence is asked for, it is saved before
-/// the report is told, after all that the text wants of memory.
+/// What the request gives: the report, or the first thing that stops it. Evidence is saved where it is asked for, after
+/// all that the text wants of memory.
 #[tactic(auto, using(nr_spec_plans::proofs::PlanLemmas::planning, nr_command_parts::proofs::PlanSteps::settling), unfolding(nr_spec_program::specs::Command::audit_plan, nr_spec_plans::specs::Plans::Runs, nr_spec_plans::specs::Plans::followed_by))]
 pub fn audit<F: Files>(
     alloc: Global,
     files: &mut F,
     request: &AuditRequest<'_>,
 ) -> Result<Ending, Stop>
-    ensures { Does ending_of (audit_plan (audit_request_of request.now)) (F.disk files.old) (F.disk files.new) result }
+    ensures { Does ending_of (audit_plan (audit_request_of request.now))
+        (F.disk files.old) (F.disk files.new) result }
 {
     let promise = read_promise(alloc, files, request.promise)?;
     let answer_bytes = read_input(alloc, files, Input::Answer, request.answer)?;

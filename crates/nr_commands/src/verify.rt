@@ -119,7 +119,8 @@ pub fn verify<F: Files>(
     files: &mut F,
     request: &VerifyRequest<'_>,
 ) -> Result<Ending, Stop>
-    ensures { Does ending_of (verify_plan (verify_request_of request.now)) (F.disk files.old) (F.disk files.new) result }
+    ensures { Does ending_of (verify_plan (verify_request_of request.now))
+        (F.disk files.old) (F.disk files.new) result }
 {
     let bytes = read_input(alloc, files, Input::Evidence, request.evidence)?;
     let claims = check_claims(alloc, &bytes, &request.root)?;

@@ -4,7 +4,8 @@ ghost use Rattle.std.specs.Prelude.{◌≡◌, ◌∷◌, map, option_map, IfOk}
 ghost use Rattle.std.specs.String.{string_bytes};
 ghost use Rattle.nr_words.specs.Views.{given_by};
 ghost use Rattle.nr_spec_commands.specs.Words.{are_apart, named, answer_request, audit_in, audit_request, check_in};
-ghost use Rattle.nr_spec_commands.specs.Words.{check_request, keygen_in, keygen_request, record_request, request_in, verify_request};
+ghost use Rattle.nr_spec_commands.specs.Words.{check_request, keygen_in, keygen_request, record_request, request_in};
+ghost use Rattle.nr_spec_commands.specs.Words.{verify_request};
 ghost use Rattle.nr_requests.specs.Views.{audit_request_of, check_request_of, keygen_request_of, request_of};
 
 use crate::answer_request::{ANSWER, AnswerRequest, answer_from};

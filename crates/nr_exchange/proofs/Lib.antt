@@ -1,0 +1,3 @@
+mod ItemSteps
+mod Matching
+mod Written

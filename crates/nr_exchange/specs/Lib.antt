@@ -1,0 +1,4 @@
+pub mod Views
+pub mod Fronts
+pub mod Matching
+pub mod Writing

@@ -1,0 +1,7 @@
+pub mod ItemLaws
+pub mod FrameLaws
+mod RowLaws
+pub mod FileLaws
+pub mod Lists
+pub mod Least
+pub mod Accepting

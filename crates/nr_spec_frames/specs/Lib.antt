@@ -1,0 +1,4 @@
+pub mod Frames
+pub mod Showing
+pub mod Verdicts
+pub mod Receipts
