@@ -16,7 +16,7 @@ ghost use Rattle.nr_laws_handed.specs.Handed.{LeavesEvidence, audit_of, evidence
 
 use nr_laws_words::words_are_requests;
 
-/// Words ask only for audits over a period that doesn't run back, whose ends have less than eight bytes.
+/// Words ask only for audits over a period that doesn't run back, whose ends are at most 2^63 - 1.
 pub fn audits_have_a_period_in_order()
     ensures { (words : List (List ℕ)) (q : AuditRequest) → request_in words ≡ Some (Audit q)
         → (q.period.from ≤ q.period.to) × (q.period.to ≤ most_number) }
@@ -35,9 +35,9 @@ pub fn audit_leaves_its_evidence()
         → Answered (λ s. (s ≡ 0) ⊎ (s ≡ 1)) run.ending status → LeavesEvidence q name t new run.ending }
 {}
 
-/// Whatever came of such an audit, no file has changed, or what the files held gives a report, and every file but the
-/// evidence file holds what it held, and that what writing the evidence of this report in whole may leave. Where the
-/// audit is refused, no file has changed.
+/// Whatever came of such an audit, no file has changed; or what the files held gives a report, the evidence file holds
+/// what writing the evidence of this report in whole may leave, and every other file holds what it held. Where the audit
+/// is refused, no file has changed.
 pub fn audit_may_leave()
     ensures left { (words : List (List ℕ)) (q : AuditRequest) (name : List ℕ) (old new : Disk) (before after : Tape)
         (status : ℕ) (t : Told) → request_in words ≡ Some (Audit q) → q.evidence ≡ Some name → old.told ≡ Some t

@@ -1,6 +1,6 @@
 //! The laws that tie auditor and verifier: evidence of a report is read as what it was written from, a verifier accepts
-//! every claim in it, and no claim but those of an audit. The functions have no code of their own: each is a theorem,
-//! which its contract states, by the theorems that it calls.
+//! every claim in it, and no claim but those of an audit that is shown the claim's own authenticator. The functions have
+//! no code of their own: each is a theorem, which its contract states, by the theorems that it calls.
 #![tactic(auto)]
 
 mod audits;
