@@ -180,8 +180,8 @@ fn match_receipts(view: &View<'_>, frame: &Frame<'_>) -> Verdict
 
 /// What a network makes of a frame: the first line that applies of the table in docs/exchange.md. It takes no memory.
 ///
-/// Nothing here compares `from_as` (but with the authenticator's AS), `to_as` or `number` with the view: the caller has to
-/// test first that the frame is from this neighbour and for this network.
+/// Nothing of `from_as` (but that the authenticator has it), `to_as` and `number` is compared with the view: the caller
+/// has to test first that the frame is from this neighbour and for this network.
 #[tactic(auto, unfolding(nr_spec_frames::specs::Verdicts::verdict))]
 pub fn accept(view: &View<'_>, frame: &Frame<'_>) -> Verdict
     requires { view.now.upto + length view.now.pending.now < 2 ^ 64 }

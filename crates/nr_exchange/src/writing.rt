@@ -178,8 +178,8 @@ fn put_frame(
 /// The bytes of a frame: of these items, from entry `first` on with the chain value before it, and of the authenticator
 /// of the last of them. `TooLong` comes exactly where there are more than 16,777,216 items, and says how many.
 ///
-/// It is the caller's part that there is one item or more, that `number` is below 256 and that `first` is from 1 to 2^62.
-/// `Frame::read` reads what is written back where these are so (`IsFrame` of the frame), and refuses it otherwise.
+/// It is the caller's part that there is one item or more, that `number` is below 256 and that `first` is from 1 to
+/// 2^62. Where `IsFrame` holds of the frame, `Frame::read` reads it back.
 pub fn write_frame(
     alloc: Global,
     from_as: u32,
