@@ -19,9 +19,9 @@ pub fn accepted_in_bounds()
         → (v.upto ≤ u) × (u ≤ v.upto + length v.pending) }
 {}
 
-/// The acknowledged number is the least up to which the receipts stand in order among the messages: they do stand so, the
-/// last of them at the last message up to it and, where there is none, with no message after the ones before; and up to
-/// no lower number do they stand.
+/// The acknowledged number is the least up to which the receipts stand in order among the messages: they do stand
+/// so, the last of them at the message of this number; up to no lower one do they stand; and where there is no receipt
+/// it is the number from before.
 pub fn accepted_is_least()
     ensures stand { (upto i : ℕ) (receipts sends : List (List ℕ)) (u : ℕ) → matched upto i receipts sends ≡ Accepted u
         → (upto ≤ u) × (u ≤ upto + length sends) × Tight receipts (take (u - upto) sends) }
