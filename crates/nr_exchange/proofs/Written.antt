@@ -5,9 +5,9 @@ use Rattle.std.specs.Prelude.{Some, None}
 use Rattle.std.proofs.lemmas.Option.{same_Some, slice_get_cases}
 use Rattle.std.proofs.lemmas.List.Concat.{flat_map-cons}
 use Rattle.nr_chain.specs.declared.item.Item.{Item}
-use Rattle.nr_spec_frames.specs.Frames.{Frame, FrameItem, AreItemsFrom, IsItem, frame, frame_item, item_time}
+use Rattle.nr_spec_log.specs.Authenticator.{authenticator}
+use Rattle.nr_spec_frames.specs.Frames.{Frame, FrameItem, AreItemsFrom, IsItem, frame, frame_front, frame_item, item_time}
 use Rattle.nr_exchange.specs.Views.{frame_item_of}
-use Rattle.nr_exchange.specs.Writing.{IsMadeOf, frame_text}
 
 -- ---- pieces one after another
 
@@ -65,11 +65,7 @@ pub count_is : (xs : List Item) → length xs ≡ length (map frame_item_of xs)
 count_is [] = refl
 count_is (x ∷ xs) = ap (λ (n : ℕ). suc n) (count_is xs)
 
--- the text of a frame's parts is its spelling
-pub text_is : (f : Frame) (from_as to_as number first : ℕ) (prev : List ℕ) (items : List FrameItem) (auth : List ℕ)
-    → IsMadeOf f from_as to_as number first prev items auth → frame_text from_as to_as number first prev items auth ≡ frame f
+-- the pieces of a frame's parts are its spelling
+pub text_is : (f : Frame) → frame_front f.from_as f.to_as f.number f.first f.prev (length f.items) ++ (flat_map frame_item f.items ++ authenticator f.auth) ≡ frame f
 unfolding frame
-text_is f from_as to_as number first prev items auth made =
-    let spelled : frame f ≡ frame_text from_as to_as number first prev items auth =
-    λ i. frame_text (made.from_is i) (made.to_is i) (made.number_is i) (made.first_is i) (made.prev_is i) (made.items_are i) (made.auth_is i) in
-    sym spelled
+text_is f = refl

@@ -1,9 +1,7 @@
 //! What a network makes of a frame.
 
 ghost use Rattle.std.specs.Prelude.{◌≡◌, ◌&&◌, ◌+◌, ◌<◌, ◌≤◌, ◌^◌, length, map, nat_le, option_map};
-ghost use Rattle.std.specs.Str.{bytes_eq};
-ghost use Rattle.nr_spec_log.specs.Authenticator.{signed_body};
-ghost use Rattle.nr_spec_keys.specs.Trees.{root_from};
+ghost use Rattle.nr_spec_history.specs.Conflicts.{is_signed};
 ghost use Rattle.nr_spec_frames.specs.Verdicts.{received_from, receipt_in, receipts, frame_value, last_item_time, last_seq, is_signed_end, matched, verdict};
 ghost use Rattle.nr_answer.specs.Views.{auth_of};
 ghost use Rattle.nr_entry.specs.Views.{content_view};
@@ -33,7 +31,7 @@ pub struct View<'a> {
 /// What a network makes of a frame.
 #[derive(Clone, Copy, Debug, PartialEq, Eq)]
 pub enum Verdict {
-    /// The neighbour has seen so many of the messages to it.
+    /// The receipts stand in order up to this message, counted from 1; the number from before where there is none.
     Accepted(u64),
     /// It shows nothing after what is accepted already.
     Old,
@@ -114,7 +112,7 @@ fn end_time(frame: &Frame<'_>) -> u64
 // ---- the lines of the table
 
 fn is_under(root: &Digest, auth: &Auth<'_>) -> bool
-    ensures { result ≡ bytes_eq (root_from (signed_body (auth_of auth.now)) (auth_of auth.now).sig) root.now.0 }
+    ensures { result ≡ is_signed root.now.0 (auth_of auth.now) }
 {
     auth.signed(root)
 }
@@ -180,7 +178,10 @@ fn match_receipts(view: &View<'_>, frame: &Frame<'_>) -> Verdict
     Verdict::Accepted(view.upto + next as u64)
 }
 
-/// What a network makes of a frame: the first line of the table that applies. It takes no memory.
+/// What a network makes of a frame: the first line that applies of the table in docs/exchange.md. It takes no memory.
+///
+/// Nothing of `from_as` (but that the authenticator has it), `to_as` and `number` is compared with the view: the caller
+/// has to test first that the frame is from this neighbour and for this network.
 #[tactic(auto, unfolding(nr_spec_frames::specs::Verdicts::verdict))]
 pub fn accept(view: &View<'_>, frame: &Frame<'_>) -> Verdict
     requires { view.now.upto + length view.now.pending.now < 2 ^ 64 }

@@ -80,9 +80,10 @@ fn read_front(cursor: &mut Cursor<'_>) -> Result<Front, Place>
     })
 }
 
-/// What one network shows a neighbour of its log: entries one after another, of which those that don't name the
-/// neighbour are hidden, and the authenticator of the last. The sender uses `number` for this neighbour, the first
-/// entry has the number `first`, and `prev` is the chain value before it.
+/// What one network shows a neighbour of its log: entries one after another, each shown or hidden, and the authenticator
+/// of the last. The sender uses `number` for this neighbour, the first entry has the number `first`, and `prev` is the
+/// chain value before it. That a sender hides the entries which don't name the neighbour, and no others, is looked at
+/// neither by `read` nor by `accept`.
 #[derive(Drop)]
 pub struct Frame<'a> {
     pub from_as: u32,

@@ -108,7 +108,7 @@ impl<'a> Model for Items<'a> {
 }
 
 impl<'a> Items<'a> {
-    /// The same items once more.
+    /// Another iterator over what is left.
     pub fn fork(&self) -> Items<'a>
         ensures { result ≡ self.now }
     {

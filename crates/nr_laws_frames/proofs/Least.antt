@@ -1,10 +1,10 @@
 -- What is matched ends as early as can be, and the receipt that is disputed is the first that can't stand.
-use Rattle.std.proofs.Common.{◌≡◌, ℕ, zero, suc, ◌+◌, ◌≤◌, Bool, true, false, List, [], ◌∷◌, take, arith, inl, inr}
+use Rattle.std.proofs.Common.{◌≡◌, ℕ, zero, suc, ◌+◌, ◌-◌, ◌≤◌, Bool, true, false, List, [], ◌∷◌, length, take, subst, arith, inl, inr}
 use Rattle.std.specs.Str.{bytes_eq}
 use Rattle.std.proofs.lemmas.Slice.Eq.{bytes_eq-Decides}
 use Rattle.nr_spec_frames.specs.Verdicts.{Accepted, Disputed, matched}
-use Rattle.nr_spec_frames.specs.Receipts.{Among, IsFirstLeft}
-use Rattle.nr_laws_frames.proofs.Lists.{by_test}
+use Rattle.nr_spec_frames.specs.Receipts.{Among, IsFirstLeft, Tight}
+use Rattle.nr_laws_frames.proofs.Lists.{by_test, matched_takes}
 
 among_skip : (rs : List (List ℕ)) (s : List ℕ) (ss : List (List ℕ)) → Among rs ss → Among rs (s ∷ ss)
 among_skip [] s ss p = tt
@@ -26,6 +26,13 @@ apart r s e same = clash (bytes_eq r s) ((bytes_eq-Decides r s).1 same) e
   where
     clash : (t : Bool) → t ≡ true → t ≡ false → ⊥
     clash t p q = cc
+
+-- The receipts stand up to the acknowledged number, the last of them at its end.
+pub matched_stand : (upto i : ℕ) (rs ss : List (List ℕ)) (u : ℕ) → matched upto i rs ss ≡ Accepted u → (upto ≤ u) × (u ≤ upto + length ss) × Tight rs (take (u - upto) ss)
+matched_stand upto i rs ss u e =
+    let m = matched_takes upto i rs ss u e in
+    let taken : m.taken ≡ u - upto = omega (arith, m.up) in
+    (omega (arith, m.up), omega (arith, m.up, m.within), subst (λ (k : ℕ). Tight rs (take k ss)) taken m.tight)
 
 -- The acknowledged number is the least up to which the receipts stand in order.
 pub matched_least : (upto i : ℕ) (rs ss : List (List ℕ)) (u k : ℕ) → matched upto i rs ss ≡ Accepted u → Among rs (take k ss) → u ≤ upto + k

@@ -4,8 +4,8 @@ ghost use Rattle.std.specs.Prelude.{◌≡◌, ◌≤◌, ◌++◌, ℕ, List, d
 ghost use Rattle.nr_spec_frames.specs.Verdicts.{Accepted, matched};
 ghost use Rattle.nr_spec_frames.specs.Receipts.{Received, Tight};
 
-/// Where receipts were matched up to the u-th message and others after it up to the v-th, all of them stand in order up
-/// to the v-th.
+/// Where what came stands in order up to the u-th message, the last of it there, and others were matched after it up to
+/// the v-th, all of them stand in order up to the v-th, the last of them there.
 pub fn more_receipts_stand()
     ensures { (came others sends : List (List ℕ)) (i u v : ℕ) → u ≤ length sends → Tight came (take u sends)
         → matched u i others (drop u sends) ≡ Accepted v

@@ -1,11 +1,11 @@
 //! What a verdict says of the receipts.
 
-ghost use Rattle.std.specs.Prelude.{◌≡◌, ◌≤◌, ◌+◌, ℕ, List, drop, length, take};
+ghost use Rattle.std.specs.Prelude.{◌≡◌, ◌≤◌, ◌+◌, ◌-◌, ℕ, List, drop, length, take};
 ghost use Rattle.nr_spec_log.specs.Chain.{LogEntry};
 ghost use Rattle.nr_spec_frames.specs.Frames.{Frame};
 ghost use Rattle.nr_spec_frames.specs.Showing.{Shows};
 ghost use Rattle.nr_spec_frames.specs.Verdicts.{Accepted, Disputed, View, matched, receipts, verdict};
-ghost use Rattle.nr_spec_frames.specs.Receipts.{Among, IsFirstLeft, Stands};
+ghost use Rattle.nr_spec_frames.specs.Receipts.{Among, IsFirstLeft, Stands, Tight};
 
 /// Where a frame is accepted, its receipts were matched.
 pub fn accepted_matches()
@@ -19,9 +19,13 @@ pub fn accepted_in_bounds()
         → (v.upto ≤ u) × (u ≤ v.upto + length v.pending) }
 {}
 
-/// The acknowledged number is the least up to which the receipts stand in order among the messages.
+/// The acknowledged number is the least up to which the receipts stand in order among the messages: they do stand
+/// so, the last of them at the message of this number; up to no lower one do they stand; and where there is no receipt
+/// it is the number from before.
 pub fn accepted_is_least()
-    ensures { (upto i : ℕ) (receipts sends : List (List ℕ)) (u k : ℕ) → matched upto i receipts sends ≡ Accepted u
+    ensures stand { (upto i : ℕ) (receipts sends : List (List ℕ)) (u : ℕ) → matched upto i receipts sends ≡ Accepted u
+        → (upto ≤ u) × (u ≤ upto + length sends) × Tight receipts (take (u - upto) sends) }
+    ensures least { (upto i : ℕ) (receipts sends : List (List ℕ)) (u k : ℕ) → matched upto i receipts sends ≡ Accepted u
         → Among receipts (take k sends) → u ≤ upto + k }
 {}
 

@@ -160,7 +160,7 @@ frame_of bytes = do
 abbrev pub frames_magic : List ℕ
 frames_magic = codes "NRF1"
 
--- the greatest size of such a file in bytes
+-- The greatest size in bytes with which such a file is to be written. Reading doesn't ask it and takes longer files.
 abbrev pub most_frames : ℕ
 most_frames = 1073741824
 

@@ -36,7 +36,7 @@ pub record IsFirstLeft (i j : ℕ) (receipts sends : List (List ℕ)) : Type 0 w
 
 -- ---- the messages of a log
 
--- all that came from a neighbour
+-- the messages of the RECV entries with this neighbour
 abbrev pub recvs : ℕ → List LogEntry → List (List ℕ)
 recvs n log = filter_map (λ e. received_from n (content_of e)) log
 

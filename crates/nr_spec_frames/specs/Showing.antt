@@ -19,7 +19,8 @@ names n other = false
 abbrev pub seen_by : ℕ → LogEntry → FrameItem
 seen_by n e = if names n (content_of e) then Shown e else Hidden e.time e.kind (sha256 e.content)
 
--- A frame shows neighbour n the entries after + 1 to k of a log.
+-- A frame shows neighbour n the entries after + 1 to k of a log. Its other fields aren't asked: the chain value before
+-- the first entry, the authenticator, both AS numbers and the number.
 pub record Shows (n : ℕ) (log : List LogEntry) (after k : ℕ) (f : Frame) : Type 0 where
   pub some : after < k
   pub within : k ≤ length log

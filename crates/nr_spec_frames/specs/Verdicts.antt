@@ -3,8 +3,7 @@ use Rattle.std.specs.Prelude.{ℕ, ◌+◌, ◌-◌, if◌then◌else◌, Bool, 
 use Rattle.std.specs.List.{filter_map}
 use Rattle.std.specs.Str.{bytes_eq}
 use Rattle.nr_spec_log.specs.Chain.{Chain, ChainItem, chained, shown}
-use Rattle.nr_spec_log.specs.Authenticator.{signed_body}
-use Rattle.nr_spec_keys.specs.Trees.{root_from}
+use Rattle.nr_spec_history.specs.Conflicts.{is_signed}
 use Rattle.nr_spec_entry.specs.Contents.{Content, Recv}
 use Rattle.nr_spec_entry.specs.ContentReading.{content_of}
 use Rattle.nr_spec_frames.specs.Frames.{Frame, FrameItem, Shown, Hidden, item_time}
@@ -69,7 +68,7 @@ receipts n seq f = filter_map (receipt_in n) (drop (seq + 1 - f.first) f.items)
 -- The authenticator is signed under the root, and speaks of the frame's last item.
 abbrev pub is_signed_end : List ℕ → Frame → Bool
 is_signed_end root f =
-    bytes_eq (root_from (signed_body f.auth) f.auth.sig) root
+    is_signed root f.auth
     && (f.auth.asn == f.from_as && (f.auth.seq == last_seq f
     && (f.auth.time == last_item_time 0 f.items && bytes_eq f.auth.hash (frame_value f (last_seq f)))))
 
