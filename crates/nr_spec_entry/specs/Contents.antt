@@ -10,7 +10,7 @@ pub data Content : Type 0 where
   Recv : (neighbour : ℕ) (as4 : Bool) (raw : List ℕ) → Content
   -- the session with a neighbour went from one state to another (RFC 4271, section 8.2.2)
   State : (neighbour : ℕ) (old : ℕ) (new : ℕ) → Content
-  -- a neighbour's signed statement on its log: it has seen so many of the messages to it
+  -- a neighbour's signed statement on its log: its receipts stand in order up to so many messages to it
   Ack : (neighbour : ℕ) (upto : ℕ) (seq : ℕ) (time : ℕ) (hash : List ℕ) (sig : List ℕ) → Content
   -- a head that is signed with a leaf, for a neighbour or for the auditor
   Commit : (neighbour : ℕ) (leaf : ℕ) → Content
