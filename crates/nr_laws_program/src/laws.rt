@@ -152,7 +152,8 @@ pub fn keygen_may_leave()
 
 /// Where an `audit` that is to save evidence answers 0 or 1, or has such an ending and the sink fails, the evidence
 /// file was cut, written in its pieces and synced, whatever the files tell; the evidence is that of the report whose
-/// text is offered, and of the bytes of the answer that were read for it. Behind that only the text is offered.
+/// text is offered, and of the answer's bytes, the promise text and the period that were read for it. Behind that only
+/// the text is offered.
 pub fn audit_saves_its_evidence()
     ensures { (words : List (List ℕ)) (q : AuditRequest) (name : List ℕ) (old new : Disk) (before after : Tape)
         (status : ℕ) → request_in words ≡ Some (Audit q) → q.evidence ≡ Some name

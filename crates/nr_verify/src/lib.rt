@@ -12,6 +12,7 @@ mod reading;
 use claims::judge;
 pub use fault::VerifyError;
 use nr_chain::Digest;
+pub use nr_verify_heads::Refusal;
 use reading::{check_order, read_answer, read_evidence, read_promise};
 use std::alloc::Global;
 
