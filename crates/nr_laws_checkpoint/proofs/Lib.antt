@@ -1,0 +1,5 @@
+mod States
+mod Entries
+mod Periods
+mod Chains
+mod Reports

@@ -1,0 +1,12 @@
+//! The laws of answers that start at a checkpoint: what is told of entries over the state that others leave is told of
+//! all, and an answer that is true of a log is audited as the whole log is. The functions have no code: each is a
+//! theorem, which its contract states.
+#![tactic(auto)]
+
+mod periods;
+mod states;
+mod wrong;
+
+pub use periods::{broken_runs_go_on, moments_go_on, promises_in_force_go_on};
+pub use states::{counts_go_on, routes_go_on};
+pub use wrong::{causes_go_on, wrong_entries_go_on};
