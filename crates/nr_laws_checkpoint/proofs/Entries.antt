@@ -1,15 +1,15 @@
 -- What is told of the entries behind others, where these stand before the period.
-use Rattle.std.proofs.Common.{◌≡◌, ℕ, ◌+◌, ◌<◌, Bool, true, false, cond, List, [], ◌∷◌, ◌++◌, length, filter, Option, Some, None, refl, sym, ap, ◌∙◌, append_assoc, append-nil, arith}
+use Rattle.std.proofs.Common.{◌≡◌, ℕ, ◌+◌, ◌<◌, true, false, cond, List, [], ◌∷◌, ◌++◌, length, Option, refl, sym, ap, ◌∙◌, append_assoc, append-nil, arith}
 use Rattle.std.specs.Prelude.{nat_lt}
 use Rattle.std.proofs.lemmas.List.{length-append}
 use Rattle.std.proofs.lemmas.Bool.Decides.{nat_tests}
 use Rattle.nr_spec_log.specs.Chain.{LogEntry}
 use Rattle.nr_spec_history.specs.Conflicts.{Period}
 use Rattle.nr_spec_counts.specs.Tallies.{Numbers}
-use Rattle.nr_spec_report.specs.Wrong.{Base, WrongEntry, cause_after, is_within, wrong_after, wrong_by, wrong_entries, wrong_next}
+use Rattle.nr_spec_report.specs.Wrong.{Base, cause_after, is_within, wrong_after, wrong_by, wrong_entries, wrong_next}
 use Rattle.nr_spec_promises.specs.Moments.{entries_before}
 use Rattle.nr_spec_slices.specs.Slices.{AreBefore, base_after}
-use Rattle.nr_laws_checkpoint.proofs.States.{cause_goes_on}
+use Rattle.nr_laws_checkpoint.proofs.Standing.{cause_goes_on}
 
 pub too_early : (period : Period) (n : ℕ) → n < period.from → is_within period n ≡ false
 too_early period n h = grind (arith, nat_tests)

@@ -1,5 +1,5 @@
-mod States
+mod Standing
 mod Entries
-mod Periods
+mod Spans
 mod Chains
 mod Reports

@@ -1,14 +1,13 @@
 -- The audit of an answer that holds the entries of a log behind some is that of the whole log.
-use Rattle.std.proofs.Common.{◌≡◌, ℕ, ◌+◌, ◌<◌, ◌≤◌, Bool, not, List, [], ◌∷◌, ◌++◌, length, filter, Option, Some, None, Result, Ok, Err, refl, sym, ap, subst, ◌∙◌, arith}
+use Rattle.std.proofs.Common.{◌≡◌, ℕ, ◌+◌, not, List, length, filter, Result, Ok, refl, sym, ap, ◌∙◌, arith}
 use Rattle.std.specs.Prelude.{nat_le}
 use Rattle.std.specs.Str.{bytes_eq}
-use Rattle.nr_spec_log.specs.Chain.{Chain, LogEntry, genesis_value, links_of, value_after}
+use Rattle.nr_spec_log.specs.Chain.{Chain, LogEntry, links_of, value_after}
 use Rattle.nr_spec_log.specs.Authenticator.{Authenticator}
-use Rattle.nr_spec_log.specs.Answer.{AnswerFile, AreEntriesFrom}
+use Rattle.nr_spec_log.specs.Answer.{AnswerFile}
 use Rattle.nr_spec_history.specs.Conflicts.{Period, answer_value, chain_of, conflicts_of, is_conflict, is_signed}
 use Rattle.nr_spec_counts.specs.Tallies.{Numbers}
-use Rattle.nr_spec_report.specs.Wrong.{Base, WrongEntry, nothing_before, wrong_entries}
-use Rattle.nr_spec_runs.specs.Runs.{Run}
+use Rattle.nr_spec_report.specs.Wrong.{Base, nothing_before, wrong_entries}
 use Rattle.nr_spec_truth.specs.Truths.{Truth}
 use Rattle.nr_spec_promises.specs.Files.{PromiseFile}
 use Rattle.nr_spec_promises.specs.Found.{broken_runs}
@@ -16,7 +15,7 @@ use Rattle.nr_spec_outcome.specs.Report.{Report}
 use Rattle.nr_spec_outcome.specs.Outcome.{Audited, Fact, Head, Short, Unsigned, digests_in_force, holds_or, network_fact, numbers_of_all, outcome, outcome_over, promise_fact, promise_files, refused_by, report_of}
 use Rattle.nr_spec_slices.specs.Slices.{AreBefore, IsBehind, state_after, whole}
 use Rattle.nr_laws_checkpoint.proofs.Entries.{wrong_goes_on}
-use Rattle.nr_laws_checkpoint.proofs.Periods.{broken_go_on, force_goes_on}
+use Rattle.nr_laws_checkpoint.proofs.Spans.{broken_go_on, force_goes_on}
 use Rattle.nr_laws_checkpoint.proofs.Chains.{chain_then, conflicts_go_on, value_append}
 
 -- the chain of such an answer goes on from that of the log

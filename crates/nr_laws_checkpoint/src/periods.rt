@@ -13,7 +13,7 @@ ghost use Rattle.nr_spec_slices.specs.Slices.{AreBefore, base_after};
 
 /// Where entries stand before the period, the moments of those behind them, over the state that they leave, are the
 /// moments of all: each begins at the same time, shows the same routes and belongs to the same file.
-#[tactic(auto, using(crate::proofs::Periods::moments_go_on))]
+#[tactic(auto, using(crate::proofs::Spans::moments_go_on))]
 pub fn moments_go_on()
     ensures { (files : List PromiseFile) (base : Base) (period : Period) (past later : List LogEntry)
         → AreBefore period past
@@ -21,7 +21,7 @@ pub fn moments_go_on()
 {}
 
 /// So the same promises are broken, for the same prefixes and at the same times.
-#[tactic(auto, using(crate::proofs::Periods::broken_go_on))]
+#[tactic(auto, using(crate::proofs::Spans::broken_go_on))]
 pub fn broken_runs_go_on()
     ensures { (files : List PromiseFile) (truth : Truth) (base : Base) (period : Period) (past later : List LogEntry)
         → AreBefore period past
@@ -30,7 +30,7 @@ pub fn broken_runs_go_on()
 {}
 
 /// And the same promises are in force in the period.
-#[tactic(auto, using(crate::proofs::Periods::force_goes_on))]
+#[tactic(auto, using(crate::proofs::Spans::force_goes_on))]
 pub fn promises_in_force_go_on()
     ensures { (base : Base) (period : Period) (past later : List LogEntry) → AreBefore period past
         → digests_in_force base period (past ++ later) ≡ digests_in_force (base_after base past) period later }

@@ -8,7 +8,7 @@ ghost use Rattle.nr_spec_report.specs.Wrong.{Base, cause_after, wrong_entries};
 ghost use Rattle.nr_spec_slices.specs.Slices.{AreBefore, base_after};
 
 /// Over the state that entries leave, an entry behind further ones has the cause that it has behind all.
-#[tactic(auto, using(crate::proofs::States::cause_goes_on))]
+#[tactic(auto, using(crate::proofs::Standing::cause_goes_on))]
 pub fn causes_go_on()
     ensures { (files : List Numbers) (base : Base) (past later : List LogEntry) (seq : ℕ) (e : LogEntry)
         → cause_after files (base_after base past) later seq e ≡ cause_after files base (past ++ later) seq e }

@@ -1,26 +1,24 @@
 -- Moments, broken runs and promises in force over entries that stand behind others, where these stand before the period.
-use Rattle.std.proofs.Common.{◌≡◌, ℕ, ◌+◌, ◌<◌, Bool, true, false, cond, List, [], ◌∷◌, ◌++◌, filter, map, Option, Some, None, refl, sym, ap, ◌∙◌, append_assoc, append-nil, arith}
+use Rattle.std.proofs.Common.{◌≡◌, ℕ, cond, List, [], ◌∷◌, ◌++◌, filter, Option, Some, None, refl, sym, ap, ◌∙◌, append_assoc, append-nil}
 use Rattle.std.specs.List.{flat_map}
 use Rattle.nr_spec_log.specs.Chain.{LogEntry}
 use Rattle.nr_spec_history.specs.Conflicts.{Period}
-use Rattle.nr_spec_bgp.specs.Prefixes.{Cidr}
 use Rattle.nr_spec_entry.specs.ContentReading.{content_of}
 use Rattle.nr_spec_routes.specs.Keys.{each_once, standing}
 use Rattle.nr_spec_routes.specs.LookBack.{last_of, later_or}
 use Rattle.nr_spec_routes.specs.Rows.{rows_after}
 use Rattle.nr_spec_counts.specs.Tallies.{Numbers, promise_in, tally_after}
 use Rattle.nr_spec_report.specs.Wrong.{Base, is_within}
-use Rattle.nr_spec_runs.specs.Runs.{Run}
 use Rattle.nr_spec_truth.specs.Truths.{Truth}
-use Rattle.nr_spec_promises.specs.Files.{PromiseFile, file_after, file_with, first_promised, force_or, ruling}
-use Rattle.nr_spec_promises.specs.Moments.{Mark, View, entries_before, marks_after, moments, view_after, view_of}
+use Rattle.nr_spec_promises.specs.Files.{PromiseFile, file_with, first_promised, force_or, ruling}
+use Rattle.nr_spec_promises.specs.Moments.{entries_before, marks_after, moments, view_after, view_of}
 use Rattle.nr_spec_promises.specs.Counted.{named_by}
 use Rattle.nr_spec_promises.specs.Found.{broken_at, broken_runs, keys_from, prefixes_over, standing_within}
 use Rattle.nr_spec_promises.proofs.Following.{follows}
 use Rattle.nr_spec_outcome.specs.Outcome.{digest_list, digests_in_force, digests_within, force_before, promised}
 use Rattle.nr_laws_accuracy.proofs.Slices.{tally_append}
 use Rattle.nr_spec_slices.specs.Slices.{AreBefore, base_after}
-use Rattle.nr_laws_checkpoint.proofs.States.{state_goes_on}
+use Rattle.nr_laws_checkpoint.proofs.Standing.{state_goes_on}
 use Rattle.nr_laws_checkpoint.proofs.Entries.{before_split, too_early}
 
 -- ---- the file to which a state belongs

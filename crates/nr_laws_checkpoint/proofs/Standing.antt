@@ -1,14 +1,10 @@
 -- The state after entries goes on from the state that the first of them leave.
-use Rattle.std.proofs.Common.{◌≡◌, ℕ, ◌+◌, List, [], ◌∷◌, ◌++◌, length, Option, Some, None, refl, sym, ap, ◌∙◌}
-use Rattle.std.specs.Prelude.{unwrap_or}
+use Rattle.std.proofs.Common.{◌≡◌, ℕ, List, ◌++◌, sym, ap, ◌∙◌}
 use Rattle.nr_spec_log.specs.Chain.{LogEntry}
-use Rattle.nr_spec_bgp.specs.Attributes.{AttributeBlock}
 use Rattle.nr_spec_routes.specs.Keys.{Key, Row, route_in}
-use Rattle.nr_spec_routes.specs.Routes.{route_after, word_of}
-use Rattle.nr_spec_routes.specs.LookBack.{last_of}
+use Rattle.nr_spec_routes.specs.Routes.{route_after}
 use Rattle.nr_spec_routes.specs.Rows.{rows_after}
 use Rattle.nr_spec_routes.proofs.RowsOnce.{rows_are}
-use Rattle.nr_spec_counts.specs.declared.cause.Cause.{Cause}
 use Rattle.nr_spec_counts.specs.Causes.{cause_of}
 use Rattle.nr_spec_counts.specs.Tallies.{Numbers, Tally, tally_after}
 use Rattle.nr_spec_report.specs.Wrong.{Base, cause_after}
