@@ -3,3 +3,6 @@ mod Entries
 mod Spans
 mod Chains
 mod Reports
+mod Timely
+mod Taken
+mod Audited

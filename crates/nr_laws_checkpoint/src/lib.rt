@@ -6,9 +6,11 @@
 mod periods;
 mod slices;
 mod states;
+mod truth;
 mod wrong;
 
 pub use periods::{broken_runs_go_on, moments_go_on, promises_in_force_go_on};
 pub use slices::{a_slice_has_the_conflicts_of_its_log, a_slice_is_audited_as_its_log};
 pub use states::{counts_go_on, routes_go_on};
+pub use truth::{a_true_answer_is_audited_as_its_log, a_true_answer_is_taken};
 pub use wrong::{causes_go_on, wrong_entries_go_on};
