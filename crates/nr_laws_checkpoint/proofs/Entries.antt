@@ -8,7 +8,8 @@ use Rattle.nr_spec_history.specs.Conflicts.{Period}
 use Rattle.nr_spec_counts.specs.Tallies.{Numbers}
 use Rattle.nr_spec_report.specs.Wrong.{Base, cause_after, is_within, wrong_after, wrong_by, wrong_entries, wrong_next}
 use Rattle.nr_spec_promises.specs.Moments.{entries_before}
-use Rattle.nr_spec_slices.specs.Slices.{AreBefore, base_after}
+use Rattle.nr_spec_bodies.specs.Bases.{state_after}
+use Rattle.nr_spec_slices.specs.Slices.{AreBefore}
 use Rattle.nr_laws_checkpoint.proofs.Standing.{cause_goes_on}
 
 pub too_early : (period : Period) (n : ℕ) → n < period.from → is_within period n ≡ false
@@ -36,21 +37,21 @@ wrong_skip files base period first before (e ∷ past) es low =
     ∙ ap (λ (l : List LogEntry). wrong_after files base period first l es) (append_assoc before (e ∷ []) past)
 
 wrong_same : (files : List Numbers) (base : Base) (period : Period) (first : ℕ) (past later es : List LogEntry)
-    → wrong_after files (base_after base past) period (first + length past) later es ≡ wrong_after files base period first (past ++ later) es
+    → wrong_after files (state_after base past) period (first + length past) later es ≡ wrong_after files base period first (past ++ later) es
 wrong_same files base period first past later [] = refl
 wrong_same files base period first past later (e ∷ es) =
     let number : first + length past + length later ≡ first + length (past ++ later) = omega (arith, length-append past later) in
     let cause = cause_goes_on files base past later (first + length (past ++ later)) e in
-    let here : wrong_next files (base_after base past) period (first + length past) later e ≡ wrong_next files base period first (past ++ later) e =
-    ap (λ (k : ℕ). cond (is_within period e.time) (wrong_by k (cause_after files (base_after base past) later k e)) []) number
+    let here : wrong_next files (state_after base past) period (first + length past) later e ≡ wrong_next files base period first (past ++ later) e =
+    ap (λ (k : ℕ). cond (is_within period e.time) (wrong_by k (cause_after files (state_after base past) later k e)) []) number
     ∙ ap (λ (c : Option _). cond (is_within period e.time) (wrong_by (first + length (past ++ later)) c) []) cause in
-    let rest : wrong_after files (base_after base past) period (first + length past) (later ++ e ∷ []) es ≡ wrong_after files base period first ((past ++ later) ++ e ∷ []) es =
+    let rest : wrong_after files (state_after base past) period (first + length past) (later ++ e ∷ []) es ≡ wrong_after files base period first ((past ++ later) ++ e ∷ []) es =
     wrong_same files base period first past (later ++ e ∷ []) es
     ∙ ap (λ (l : List LogEntry). wrong_after files base period first l es) (sym (append_assoc past later (e ∷ []))) in
     λ i. here i ++ rest i
 
 pub wrong_goes_on : (files : List Numbers) (base : Base) (period : Period) (first : ℕ) (past es : List LogEntry) → AreBefore period past
-    → wrong_entries files base period first (past ++ es) ≡ wrong_entries files (base_after base past) period (first + length past) es
+    → wrong_entries files base period first (past ++ es) ≡ wrong_entries files (state_after base past) period (first + length past) es
 wrong_goes_on files base period first past es low =
     wrong_skip files base period first [] past es low
     ∙ sym (wrong_same files base period first past [] es ∙ ap (λ (l : List LogEntry). wrong_after files base period first l es) (append-nil past))

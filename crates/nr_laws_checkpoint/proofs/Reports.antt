@@ -13,7 +13,8 @@ use Rattle.nr_spec_promises.specs.Files.{PromiseFile}
 use Rattle.nr_spec_promises.specs.Found.{broken_runs}
 use Rattle.nr_spec_outcome.specs.Report.{Report}
 use Rattle.nr_spec_outcome.specs.Outcome.{Audited, Fact, Head, Short, Unsigned, digests_in_force, holds_or, network_fact, numbers_of_all, outcome, outcome_over, promise_fact, promise_files, refused_by, report_of}
-use Rattle.nr_spec_slices.specs.Slices.{AreBefore, IsBehind, state_after, whole}
+use Rattle.nr_spec_bodies.specs.Bases.{state_after}
+use Rattle.nr_spec_slices.specs.Slices.{AreBefore, IsBehind, whole}
 use Rattle.nr_laws_checkpoint.proofs.Entries.{wrong_goes_on}
 use Rattle.nr_laws_checkpoint.proofs.Spans.{broken_go_on, force_goes_on}
 use Rattle.nr_laws_checkpoint.proofs.Chains.{chain_then, conflicts_go_on, value_append}
@@ -43,21 +44,21 @@ conflicts_behind root before log answer period auths is low =
 
 pub wrong_behind : (files : List Numbers) (before log : List LogEntry) (answer : AnswerFile) (period : Period)
     → IsBehind before log answer → AreBefore period before
-    → wrong_entries files (state_after before) period answer.first answer.entries ≡ wrong_entries files nothing_before period 1 log
+    → wrong_entries files (state_after nothing_before before) period answer.first answer.entries ≡ wrong_entries files nothing_before period 1 log
 wrong_behind files before log answer period is low =
     let n : answer.first ≡ 1 + length before = let m = is.first in omega (arith, m) in
     sym (ap (wrong_entries files nothing_before period 1) is.entries ∙ wrong_goes_on files nothing_before period 1 before answer.entries low
-    ∙ ap (λ (k : ℕ). wrong_entries files (state_after before) period k answer.entries) (sym n))
+    ∙ ap (λ (k : ℕ). wrong_entries files (state_after nothing_before before) period k answer.entries) (sym n))
 
 pub broken_behind : (files : List PromiseFile) (truth : Truth) (before log : List LogEntry) (answer : AnswerFile) (period : Period)
     → IsBehind before log answer → AreBefore period before
-    → broken_runs files truth (state_after before) period answer.entries ≡ broken_runs files truth nothing_before period log
+    → broken_runs files truth (state_after nothing_before before) period answer.entries ≡ broken_runs files truth nothing_before period log
 broken_behind files truth before log answer period is low =
     sym (ap (broken_runs files truth nothing_before period) is.entries ∙ broken_go_on files truth nothing_before period before answer.entries low)
 
 pub report_behind : (root : List ℕ) (files : List Audited) (truth : Truth) (before log : List LogEntry) (answer : AnswerFile) (period : Period) (auths : List Authenticator)
     → IsBehind before log answer → AreBefore period before
-    → report_of root files truth (state_after before) answer period auths ≡ report_of root files truth nothing_before (whole log answer) period auths
+    → report_of root files truth (state_after nothing_before before) answer period auths ≡ report_of root files truth nothing_before (whole log answer) period auths
 report_behind root files truth before log answer period auths is low =
     let conflicts = conflicts_behind root before log answer period auths is low in
     let wrong = wrong_behind (numbers_of_all files) before log answer period is low in
@@ -86,13 +87,13 @@ whole_is root files truth log answer period auths = refl
 
 pub outcome_behind : (root : List ℕ) (files : List Audited) (truth : Truth) (before log : List LogEntry) (answer : AnswerFile) (period : Period) (auths : List Authenticator)
     → IsBehind before log answer → AreBefore period before
-    → outcome_over root files truth (state_after before) answer period auths ≡ outcome root files truth (whole log answer) period auths
+    → outcome_over root files truth (state_after nothing_before before) answer period auths ≡ outcome root files truth (whole log answer) period auths
 outcome_behind root files truth before log answer period auths is low =
     let value = sym (value_behind before log answer is) in
-    let digests : digests_in_force (state_after before) period answer.entries ≡ digests_in_force nothing_before period log =
+    let digests : digests_in_force (state_after nothing_before before) period answer.entries ≡ digests_in_force nothing_before period log =
     sym (ap (digests_in_force nothing_before period) is.entries ∙ force_goes_on nothing_before period before answer.entries low) in
     let report = report_behind root files truth before log answer period auths is low in
-    over_is root files truth (state_after before) answer period auths
+    over_is root files truth (state_after nothing_before before) answer period auths
     ∙ (λ i. told_of root files answer.asn answer.head period (value i) (digests i) (report i))
     ∙ sym (over_is root files truth nothing_before (whole log answer) period auths)
     ∙ sym (whole_is root files truth log answer period auths)

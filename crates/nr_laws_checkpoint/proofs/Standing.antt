@@ -9,9 +9,9 @@ use Rattle.nr_spec_counts.specs.Causes.{cause_of}
 use Rattle.nr_spec_counts.specs.Tallies.{Numbers, Tally, tally_after}
 use Rattle.nr_spec_report.specs.Wrong.{Base, cause_after}
 use Rattle.nr_laws_accuracy.proofs.Slices.{rows_append, tally_append}
-use Rattle.nr_spec_slices.specs.Slices.{base_after}
+use Rattle.nr_spec_bodies.specs.Bases.{state_after}
 
-pub state_goes_on : (base : Base) (past later : List LogEntry) → base_after (base_after base past) later ≡ base_after base (past ++ later)
+pub state_goes_on : (base : Base) (past later : List LogEntry) → state_after (state_after base past) later ≡ state_after base (past ++ later)
 state_goes_on base past later = λ i. record {
   rows = rows_append base.rows past later i;
   tally = sym (tally_append past later base.tally) i;
@@ -30,6 +30,6 @@ route_goes_on base past later key =
     ∙ rows_are base (past ++ later) key
 
 pub cause_goes_on : (files : List Numbers) (base : Base) (past later : List LogEntry) (seq : ℕ) (e : LogEntry)
-    → cause_after files (base_after base past) later seq e ≡ cause_after files base (past ++ later) seq e
+    → cause_after files (state_after base past) later seq e ≡ cause_after files base (past ++ later) seq e
 cause_goes_on files base past later seq e =
     ap (λ (b : Base). cause_of files b.tally b.rows seq e) (state_goes_on base past later)

@@ -19,7 +19,8 @@ use Rattle.nr_spec_counts.specs.Tallies.{Numbers, Tally}
 use Rattle.nr_spec_report.specs.Wrong.{cause_after, nothing_before}
 use Rattle.nr_laws_entry.proofs.Spelled.{content_again}
 use Rattle.nr_laws_accuracy.proofs.Times.{known_last}
-use Rattle.nr_spec_slices.specs.Slices.{IsLog, IsTrue, state_after}
+use Rattle.nr_spec_bodies.specs.Bases.{state_after}
+use Rattle.nr_spec_slices.specs.Slices.{IsLog, IsTrue}
 use Rattle.nr_spec_slices.specs.Late.{Body, Time, late_by, late_fact, late_of}
 
 -- ---- the last time
@@ -29,7 +30,7 @@ last_before last [] e es h = h.1
 last_before last (x ∷ xs) e es h = last_before x.time xs e es h.2
 
 pub last_in_time : (log : List LogEntry) (answer : AnswerFile) (e : LogEntry) (es : List LogEntry) → IsLog log → (t : IsTrue log answer) → answer.entries ≡ e ∷ es
-    → (state_after t.before).tally.last ≤ e.time
+    → (state_after nothing_before t.before).tally.last ≤ e.time
 last_in_time log answer e es log_is t first =
     let split : log ≡ t.before ++ e ∷ es = t.behind.entries ∙ ap (λ (l : List LogEntry). t.before ++ l) first in
     let low = last_before 0 t.before e es (subst (AreEntriesFrom 0) split log_is.entries) in
@@ -75,7 +76,7 @@ pub digest_in_time : (files : List Numbers) (period : Period) (log : List LogEnt
     → (t : IsTrue log answer) → IsAnswer answer → answer.entries ≡ e ∷ es → cause_after files nothing_before t.before answer.first e ≡ None → e.time < period.from
     → late_fact answer period ≡ None
 digest_in_time files period log answer e es t a is right early =
-    let state = state_after t.before in
+    let state = state_after nothing_before t.before in
     let body = checkpoint_body state.tally state.rows in
     let kind = first_kind answer body e es answer.first a.start t.body is in
     let same : e.content ≡ sha256 body =

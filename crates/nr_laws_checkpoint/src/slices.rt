@@ -8,7 +8,8 @@ ghost use Rattle.nr_spec_history.specs.Conflicts.{Period, answer_value, conflict
 ghost use Rattle.nr_spec_report.specs.Wrong.{nothing_before};
 ghost use Rattle.nr_spec_truth.specs.Truths.{Truth};
 ghost use Rattle.nr_spec_outcome.specs.Outcome.{Audited, outcome, outcome_over, report_of};
-ghost use Rattle.nr_spec_slices.specs.Slices.{AreBefore, IsBehind, state_after, whole};
+ghost use Rattle.nr_spec_bodies.specs.Bases.{state_after};
+ghost use Rattle.nr_spec_slices.specs.Slices.{AreBefore, IsBehind, whole};
 
 /// The chain of an answer that holds the entries of a log behind some ends with the log's value. Where the entries before
 /// it stand before the period, its conflicts are those of the whole log: an authenticator that is presented has its time
@@ -29,11 +30,11 @@ pub fn a_slice_is_audited_as_its_log()
     ensures report { (root : List ℕ) (files : List Audited) (truth : Truth) (before log : List LogEntry)
         (answer : AnswerFile) (period : Period) (auths : List Authenticator)
         → IsBehind before log answer → AreBefore period before
-        → report_of root files truth (state_after before) answer period auths
+        → report_of root files truth (state_after nothing_before before) answer period auths
         ≡ report_of root files truth nothing_before (whole log answer) period auths }
     ensures outcome { (root : List ℕ) (files : List Audited) (truth : Truth) (before log : List LogEntry)
         (answer : AnswerFile) (period : Period) (auths : List Authenticator)
         → IsBehind before log answer → AreBefore period before
-        → outcome_over root files truth (state_after before) answer period auths
+        → outcome_over root files truth (state_after nothing_before before) answer period auths
         ≡ outcome root files truth (whole log answer) period auths }
 {}

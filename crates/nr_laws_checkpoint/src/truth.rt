@@ -9,7 +9,8 @@ ghost use Rattle.nr_spec_counts.specs.Tallies.{Numbers};
 ghost use Rattle.nr_spec_report.specs.Wrong.{cause_after, nothing_before};
 ghost use Rattle.nr_spec_truth.specs.Truths.{Truth};
 ghost use Rattle.nr_spec_outcome.specs.Outcome.{Audited, outcome, outcome_over};
-ghost use Rattle.nr_spec_slices.specs.Slices.{IsLog, IsTrue, state_after, whole};
+ghost use Rattle.nr_spec_bodies.specs.Bases.{state_after};
+ghost use Rattle.nr_spec_slices.specs.Slices.{IsLog, IsTrue, whole};
 ghost use Rattle.nr_spec_slices.specs.Late.{late_fact};
 
 /// For every log of which an answer is true, an audit of the answer that isn't refused as late gives what an audit of
@@ -19,7 +20,7 @@ pub fn a_true_answer_is_audited_as_its_log()
     ensures { (root : List ℕ) (files : List Audited) (truth : Truth) (log : List LogEntry) (answer : AnswerFile)
         (period : Period) (auths : List Authenticator) → IsLog log → (t : IsTrue log answer) → IsAnswer answer
         → late_fact answer period ≡ None
-        → outcome_over root files truth (state_after t.before) answer period auths
+        → outcome_over root files truth (state_after nothing_before t.before) answer period auths
         ≡ outcome root files truth (whole log answer) period auths }
 {}
 
@@ -27,7 +28,7 @@ pub fn a_true_answer_is_audited_as_its_log()
 /// before the period, and isn't wrong in the log, the answer isn't refused as late.
 pub fn a_true_answer_is_taken()
     ensures last { (log : List LogEntry) (answer : AnswerFile) (e : LogEntry) (es : List LogEntry) → IsLog log
-        → (t : IsTrue log answer) → answer.entries ≡ e ∷ es → (state_after t.before).tally.last ≤ e.time }
+        → (t : IsTrue log answer) → answer.entries ≡ e ∷ es → (state_after nothing_before t.before).tally.last ≤ e.time }
     ensures late { (files : List Numbers) (period : Period) (log : List LogEntry) (answer : AnswerFile)
         (e : LogEntry) (es : List LogEntry) → (t : IsTrue log answer) → IsAnswer answer → answer.entries ≡ e ∷ es
         → cause_after files nothing_before t.before answer.first e ≡ None → e.time < period.from

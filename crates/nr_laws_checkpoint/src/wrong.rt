@@ -5,13 +5,14 @@ ghost use Rattle.nr_spec_log.specs.Chain.{LogEntry};
 ghost use Rattle.nr_spec_history.specs.Conflicts.{Period};
 ghost use Rattle.nr_spec_counts.specs.Tallies.{Numbers};
 ghost use Rattle.nr_spec_report.specs.Wrong.{Base, cause_after, wrong_entries};
-ghost use Rattle.nr_spec_slices.specs.Slices.{AreBefore, base_after};
+ghost use Rattle.nr_spec_bodies.specs.Bases.{state_after};
+ghost use Rattle.nr_spec_slices.specs.Slices.{AreBefore};
 
 /// Over the state that entries leave, an entry behind further ones has the cause that it has behind all.
 #[tactic(auto, using(crate::proofs::Standing::cause_goes_on))]
 pub fn causes_go_on()
     ensures { (files : List Numbers) (base : Base) (past later : List LogEntry) (seq : ℕ) (e : LogEntry)
-        → cause_after files (base_after base past) later seq e ≡ cause_after files base (past ++ later) seq e }
+        → cause_after files (state_after base past) later seq e ≡ cause_after files base (past ++ later) seq e }
 {}
 
 /// Where entries stand before the period, the wrong ones of those behind them, over the state that they leave and with
@@ -21,5 +22,5 @@ pub fn wrong_entries_go_on()
     ensures { (files : List Numbers) (base : Base) (period : Period) (first : ℕ) (past later : List LogEntry)
         → AreBefore period past
         → wrong_entries files base period first (past ++ later)
-        ≡ wrong_entries files (base_after base past) period (first + length past) later }
+        ≡ wrong_entries files (state_after base past) period (first + length past) later }
 {}

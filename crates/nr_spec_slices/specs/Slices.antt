@@ -5,18 +5,8 @@ use Rattle.nr_spec_wire.specs.Reading.{IsBytes}
 use Rattle.nr_spec_log.specs.Chain.{LogEntry, genesis_value}
 use Rattle.nr_spec_log.specs.Answer.{AnswerFile, AreEntriesFrom}
 use Rattle.nr_spec_history.specs.Conflicts.{Period, answer_value}
-use Rattle.nr_spec_routes.specs.Rows.{rows_after}
-use Rattle.nr_spec_counts.specs.Tallies.{tally_after}
-use Rattle.nr_spec_counts.specs.Bodies.{checkpoint_body}
-use Rattle.nr_spec_report.specs.Wrong.{Base, nothing_before}
-
--- the state that entries leave, over a base: the base of what follows them
-abbrev pub base_after : Base → List LogEntry → Base
-base_after base past = record { rows = rows_after base.rows past; tally = tally_after base.tally past }
-
--- the state that the first entries of a log leave
-abbrev pub state_after : List LogEntry → Base
-state_after past = base_after nothing_before past
+use Rattle.nr_spec_report.specs.Wrong.{nothing_before}
+use Rattle.nr_spec_bodies.specs.Bases.{body_of, state_after}
 
 -- a log, as an answer of all its entries
 abbrev pub whole : List LogEntry → AnswerFile → AnswerFile
@@ -46,7 +36,7 @@ pub record IsBehind (before log : List LogEntry) (answer : AnswerFile) : Type 0 
 pub record IsTrue (log : List LogEntry) (answer : AnswerFile) : Type 0 where
   pub before : List LogEntry
   pub behind : IsBehind before log answer
-  pub body : answer.body ≡ Some (checkpoint_body (state_after before).tally (state_after before).rows)
+  pub body : answer.body ≡ Some (body_of (state_after nothing_before before))
 
 -- each of these entries has a time before the period
 abbrev pub AreBefore : Period → List LogEntry → Type 0
