@@ -4,6 +4,7 @@ use Rattle.nr_spec_log.specs.Chain.{LogEntry}
 use Rattle.nr_spec_log.specs.Authenticator.{Authenticator}
 use Rattle.nr_spec_log.specs.Answer.{AnswerFile, IsAnswer}
 use Rattle.nr_spec_history.specs.Conflicts.{Period}
+use Rattle.nr_spec_report.specs.Wrong.{nothing_before}
 use Rattle.nr_spec_truth.specs.Truths.{Truth}
 use Rattle.nr_spec_outcome.specs.Outcome.{Audited, outcome, outcome_over}
 use Rattle.nr_spec_bodies.specs.Bases.{state_after}

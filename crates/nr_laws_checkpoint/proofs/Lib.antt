@@ -2,7 +2,7 @@ mod Standing
 mod Entries
 mod Spans
 mod Chains
-mod Reports
+pub mod Reports
 mod Timely
-mod Taken
-mod Audited
+pub mod Taken
+pub mod Audited

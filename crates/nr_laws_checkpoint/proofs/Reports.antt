@@ -66,7 +66,7 @@ report_behind root files truth before log answer period auths is low =
     λ i. record { conflicts = conflicts i; wrong = wrong i; broken = broken i }
 
 -- an outcome, by the chain's last value, the promises in force and the report
-abbrev told_of : List ℕ → List Audited → ℕ → Authenticator → Period → List ℕ → List (List ℕ) → Report → Result Report Fact
+abbrev pub told_of : List ℕ → List Audited → ℕ → Authenticator → Period → List ℕ → List (List ℕ) → Report → Result Report Fact
 told_of root files asn head period value digests report =
     refused_by (network_fact asn files)
     (holds_or (is_signed root head) Unsigned
@@ -74,13 +74,13 @@ told_of root files asn head period value digests report =
     (holds_or (not (nat_le head.time period.to)) (Short head.time period.to)
     (refused_by (promise_fact (numbers_of_all files) digests) (Ok report)))))
 
-over_is : (root : List ℕ) (files : List Audited) (truth : Truth) (base : Base) (answer : AnswerFile) (period : Period) (auths : List Authenticator)
+pub over_is : (root : List ℕ) (files : List Audited) (truth : Truth) (base : Base) (answer : AnswerFile) (period : Period) (auths : List Authenticator)
     → outcome_over root files truth base answer period auths
     ≡ told_of root files answer.asn answer.head period (answer_value answer) (digests_in_force base period answer.entries) (report_of root files truth base answer period auths)
 unfolding outcome_over
 over_is root files truth base answer period auths = refl
 
-whole_is : (root : List ℕ) (files : List Audited) (truth : Truth) (log : List LogEntry) (answer : AnswerFile) (period : Period) (auths : List Authenticator)
+pub whole_is : (root : List ℕ) (files : List Audited) (truth : Truth) (log : List LogEntry) (answer : AnswerFile) (period : Period) (auths : List Authenticator)
     → outcome root files truth (whole log answer) period auths ≡ outcome_over root files truth nothing_before (whole log answer) period auths
 unfolding outcome
 whole_is root files truth log answer period auths = refl
