@@ -1,18 +1,15 @@
 -- The fields of a checkpoint body: what is read is spelled so, and what is spelled so is read.
-use Rattle.std.proofs.Common.{◌≡◌, ℕ, zero, suc, ◌+◌, ◌-◌, ◌*◌, ◌^◌, ◌<◌, ◌≤◌, Bool, true, false, cond, eqb, ltb, leb, List, [], ◌∷◌, ◌++◌, length, replicate, Option, Some, None, Result, Ok, Err, refl, sym, ap, subst, ◌∙◌, append_assoc, arith}
+use Rattle.std.proofs.Common.{◌≡◌, ℕ, zero, suc, ◌+◌, ◌^◌, ◌<◌, ◌≤◌, true, cond, eqb, ltb, leb, List, [], ◌∷◌, ◌++◌, length, replicate, Option, Some, None, Ok, refl, sym, ap, subst, ◌∙◌, append_assoc, arith}
 use Rattle.std.specs.List.{flat_map, AllByRecursion}
 use Rattle.std.specs.Str.{bytes_eq}
-use Rattle.std.specs.Ordering.{is_lt}
 use Rattle.std.proofs.lemmas.Bool.{ltb-true, leb-true, eqb-true, lt-ltb, le-leb, eq-eqb}
 use Rattle.std.proofs.lemmas.List.{length-append}
 use Rattle.std.proofs.lemmas.List.Concat.{flat_map-cons}
 use Rattle.std.proofs.lemmas.Slice.Eq.{bytes_eq-Decides}
 use Rattle.byteorder.specs.Endian.{big_bytes}
-use Rattle.nr_spec_wire.specs.Reading.{Spot, Read, ◌>>=◌, wants, IsBytes}
-use Rattle.nr_spec_wire.proofs.Steps.{ok_is, bind_ok}
+use Rattle.nr_spec_wire.specs.Reading.{Spot, Read, IsBytes}
+use Rattle.nr_spec_wire.proofs.Steps.{ok_is}
 use Rattle.nr_spec_log.specs.Authenticator.{digest_size}
-use Rattle.nr_spec_bgp.specs.Prefixes.{Cidr, IsCidr, front, faults_at}
-use Rattle.nr_spec_bgp.specs.Attributes.{Attribute, AttributeBlock, attributes_in, is_complete}
 use Rattle.nr_laws_log.specs.Laws.{Takes, ReadsSpelled, SpelledReads}
 use Rattle.nr_laws_log.proofs.Fields.{Takes-then, step, number_step, number_again, bytes_step, bytes_again, wants_step, reads_then, wants_then}
 use Rattle.nr_spec_entry.specs.Contents.{flag, most_delay, most_neighbours}
