@@ -1,15 +1,14 @@
 -- The base that the body of a true answer states is the state before its entries.
-use Rattle.std.proofs.Common.{◌≡◌, ℕ, zero, suc, ◌+◌, ◌^◌, ◌<◌, ◌≤◌, Bool, true, false, cond, List, [], ◌∷◌, ◌++◌, length, Option, Some, None, Result, Ok, Err, refl, sym, ap, subst, ◌∙◌, arith}
-use Rattle.std.specs.Prelude.{nat_le}
+use Rattle.std.proofs.Common.{◌≡◌, ℕ, zero, suc, ◌+◌, ◌<◌, ◌≤◌, Bool, true, false, cond, List, [], ◌∷◌, ◌++◌, length, Option, Some, Result, Ok, Err, refl, sym, ap, subst, ◌∙◌, arith}
 use Rattle.std.specs.List.{AllByRecursion}
 use Rattle.std.proofs.lemmas.Bool.{le-leb}
 use Rattle.nr_spec_wire.specs.Reading.{IsBytes}
 use Rattle.nr_spec_log.specs.Chain.{LogEntry}
-use Rattle.nr_spec_log.specs.Answer.{AnswerFile, AreEntriesFrom, IsAnswer, StartsAt, body_offset, most_body, most_first}
+use Rattle.nr_spec_log.specs.Answer.{AnswerFile, AreEntriesFrom, IsAnswer, StartsAt, body_offset, most_body}
 use Rattle.nr_spec_bounds.specs.Bounds.{AreStated, HasRoom, most_counted}
 use Rattle.nr_spec_report.specs.Wrong.{Base, nothing_before}
 use Rattle.nr_spec_bodies.specs.Reading.{base_of}
-use Rattle.nr_spec_bodies.specs.Bases.{IsBase, body_of, state_after}
+use Rattle.nr_spec_bodies.specs.Bases.{body_of, state_after}
 use Rattle.nr_spec_slices.specs.Slices.{IsLog, IsTrue}
 use Rattle.nr_spec_slices.specs.Audits.{Malformed, Refusal, base_by, is_in_time, stated}
 use Rattle.nr_laws_bodies.proofs.States.{nothing_is, state_reads}

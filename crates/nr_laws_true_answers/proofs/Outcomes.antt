@@ -1,5 +1,5 @@
 -- The audit of a true answer is that of the whole log, but for a late checkpoint.
-use Rattle.std.proofs.Common.{◌≡◌, ℕ, zero, suc, ◌==◌, ◌<◌, Bool, true, false, not, cond, List, Option, Some, None, Result, Ok, Err, refl, sym, ap, ◌∙◌}
+use Rattle.std.proofs.Common.{◌≡◌, ℕ, zero, suc, ◌==◌, Bool, true, false, not, List, Option, Some, None, Result, Ok, Err, refl, sym, ap, ◌∙◌}
 use Rattle.std.specs.Prelude.{nat_le, option_map}
 use Rattle.std.specs.Str.{bytes_eq}
 use Rattle.nr_spec_log.specs.Chain.{LogEntry}
@@ -7,14 +7,14 @@ use Rattle.nr_spec_log.specs.Authenticator.{Authenticator}
 use Rattle.nr_spec_log.specs.Answer.{AnswerFile, IsAnswer, StartsAt}
 use Rattle.nr_spec_history.specs.Conflicts.{Period, answer_value, is_signed}
 use Rattle.nr_spec_counts.specs.Tallies.{Numbers}
-use Rattle.nr_spec_report.specs.Wrong.{Base, nothing_before}
+use Rattle.nr_spec_report.specs.Wrong.{nothing_before}
 use Rattle.nr_spec_truth.specs.Truths.{Truth}
 use Rattle.nr_spec_outcome.specs.Report.{Report}
 use Rattle.nr_spec_outcome.specs.Outcome.{Audited, Fact, Form, Head, Network, Promise, Short, Unsigned, digests_in_force, first_digest, holds_or, misfit, network_fact, numbers_of_all, outcome, outcome_over, promise_fact, refused_by, report_of}
 use Rattle.nr_spec_bodies.specs.Bases.{state_after}
 use Rattle.nr_spec_slices.specs.Slices.{IsLog, IsTrue, whole}
 use Rattle.nr_spec_slices.specs.Late.{Late, late_fact, late_of}
-use Rattle.nr_spec_slices.specs.Audits.{Checkpoint, Refusal, Refused, base_by, outcome_by, outcome_of, with_late}
+use Rattle.nr_spec_slices.specs.Audits.{Checkpoint, Refusal, base_by, outcome_by, outcome_of, with_late}
 use Rattle.nr_laws_checkpoint.proofs.Reports.{over_is, told_of, value_behind, whole_is}
 use Rattle.nr_laws_checkpoint.proofs.Audited.{true_outcome}
 use Rattle.nr_laws_true_answers.proofs.Bases.{true_base_by}
