@@ -1,10 +1,10 @@
 -- The answers that a network gives from a checkpoint on are true of its log.
-use Rattle.std.proofs.Common.{◌≡◌, ℕ, zero, suc, ◌+◌, Bool, true, false, cond, List, [], ◌∷◌, length, take, drop, Option, Some, None, Result, Ok, Err, refl, sym, ap, subst, ◌∙◌}
+use Rattle.std.proofs.Common.{◌≡◌, ℕ, zero, suc, ◌+◌, ◌≤◌, Bool, true, false, cond, List, [], ◌∷◌, length, take, drop, Option, Some, None, Result, Ok, Err, refl, sym, ap, subst, ◌∙◌}
 use Rattle.std.specs.Prelude.{option_map}
 use Rattle.std.proofs.lemmas.List.{take-append-drop}
 use Rattle.nr_spec_log.specs.Chain.{LogEntry}
 use Rattle.nr_spec_log.specs.Authenticator.{Authenticator}
-use Rattle.nr_spec_log.specs.Answer.{AnswerFile, IsAnswer}
+use Rattle.nr_spec_log.specs.Answer.{AnswerFile, IsAnswer, most_body}
 use Rattle.nr_spec_history.specs.Conflicts.{Period}
 use Rattle.nr_spec_history.specs.KeyFiles.{Key}
 use Rattle.nr_spec_entry.specs.Contents.{auditor}
@@ -15,6 +15,9 @@ use Rattle.nr_spec_steps.specs.Heads.{answer_from_first, last_commit, whole_answ
 use Rattle.nr_spec_slices.specs.Slices.{IsLog, IsTrue, whole}
 use Rattle.nr_spec_slices.specs.Audits.{outcome_of}
 use Rattle.nr_spec_starts.specs.Starts.{NoAnswer, NoCheckpoint, answer_at, answer_behind, answer_up_to, begins_with_checkpoint, started_answer}
+use Rattle.nr_spec_report.specs.Wrong.{nothing_before}
+use Rattle.nr_spec_bodies.specs.Bases.{body_of, state_after}
+use Rattle.nr_laws_true_answers.proofs.Fitting.{behind_fits}
 use Rattle.nr_laws_true_answers.proofs.Outcomes.{not_refused, true_report, whole_given}
 
 answered_is : (x y : AnswerFile) → (let r : Result AnswerFile NoAnswer = Ok x in r) ≡ Ok y → x ≡ y
@@ -101,3 +104,38 @@ started_report key log start w answer root files truth period auths report whole
         let entries : w.entries ≡ l = ap (λ (x : AnswerFile). x.entries) (sym is) in
         ap (λ (x : AnswerFile). outcome root files truth x period auths) (sym is ∙ sym whole_of)
         ∙ true_report root files truth l answer period auths report (subst IsLog entries log_is) true_of a given
+
+-- ---- it is an answer
+
+fits_at : (key : Key) (log : List LogEntry) (start : ℕ) (answer : AnswerFile) (body : List ℕ) → answer_at key log start ≡ Ok answer → IsAnswer (answer_from_first key log) → IsLog log
+    → answer.body ≡ Some body → length body ≤ most_body → IsAnswer answer
+fits_at key log zero answer body is a log_is some small = absurd cc
+fits_at key log (suc zero) answer body is a log_is some small = subst IsAnswer (answered_is (answer_from_first key log) answer is) a
+fits_at key log (suc (suc n)) answer body is a log_is some small = by (begins_with_checkpoint (drop (suc n) log)) refl is
+  where
+    none : NoAnswer → Result AnswerFile NoAnswer
+    none why = Err why
+
+    body_is : (x y : List ℕ) → (let o : Option (List ℕ) = Some x in o) ≡ Some y → x ≡ y
+    body_is x y e = cc
+
+    by : (b : Bool) → begins_with_checkpoint (drop (suc n) log) ≡ b → cond b (Ok (answer_behind key (suc n) log)) (none (NoCheckpoint (suc (suc n)))) ≡ Ok answer → IsAnswer answer
+    by true begins h =
+        let same = answered_is (answer_behind key (suc n) log) answer h in
+        let stated = body_is (body_of (state_after nothing_before (take (suc n) log))) body (ap (λ (x : AnswerFile). x.body) same ∙ some) in
+        subst IsAnswer same (behind_fits key n log a log_is begins (subst (λ (l : List ℕ). length l ≤ most_body) (sym stated) small))
+    by false begins h = absurd (no h)
+      where
+        no : none (NoCheckpoint (suc (suc n))) ≡ Ok answer → ⊥
+        no e = absurd cc
+
+pub started_fits : (key : Key) (log : List LogEntry) (start : ℕ) (all answer : AnswerFile) (body : List ℕ) → whole_answer key log ≡ Some all → started_answer key log start ≡ Ok answer
+    → IsAnswer all → IsLog all.entries → answer.body ≡ Some body → length body ≤ most_body → IsAnswer answer
+unfolding whole_answer started_answer
+started_fits key log start all answer body whole_is started a log_is some small = by (last_commit auditor log) whole_is started
+  where
+    by : (head : Option ℕ) → option_map (λ k. answer_from_first key (take k log)) head ≡ Some all → answer_up_to key log start head ≡ Ok answer → IsAnswer answer
+    by None h k = absurd cc
+    by (Some head) h k =
+        let is = found_is (answer_from_first key (take head log)) all h in
+        fits_at key (take head log) start answer body k (subst IsAnswer (sym is) a) (subst IsLog (ap (λ (x : AnswerFile). x.entries) (sym is)) log_is) some small

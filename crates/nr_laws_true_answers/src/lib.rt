@@ -11,4 +11,6 @@ pub use audits::{
     a_true_answer_has_the_report_of_its_log, a_true_body_states_what_stands_before,
     a_whole_answer_is_audited_from_nothing,
 };
-pub use starts::{a_started_answer_has_the_whole_report, a_started_answer_is_true};
+pub use starts::{
+    a_started_answer_has_the_whole_report, a_started_answer_is_an_answer, a_started_answer_is_true,
+};

@@ -1,8 +1,8 @@
 //! Answers that a network gives from a checkpoint on.
 
-ghost use Rattle.std.specs.Prelude.{◌≡◌, ℕ, List, None, Ok, Some};
+ghost use Rattle.std.specs.Prelude.{◌≡◌, ◌≤◌, ℕ, List, None, Ok, Some, length};
 ghost use Rattle.nr_spec_log.specs.Chain.{LogEntry};
-ghost use Rattle.nr_spec_log.specs.Answer.{AnswerFile, IsAnswer};
+ghost use Rattle.nr_spec_log.specs.Answer.{AnswerFile, IsAnswer, most_body};
 ghost use Rattle.nr_spec_log.specs.Authenticator.{Authenticator};
 ghost use Rattle.nr_spec_history.specs.Conflicts.{Period};
 ghost use Rattle.nr_spec_history.specs.KeyFiles.{Key};
@@ -19,6 +19,13 @@ pub fn a_started_answer_is_true()
     ensures { (key : Key) (log : List LogEntry) (start : ℕ) (all answer : AnswerFile)
         → whole_answer key log ≡ Some all → started_answer key log start ≡ Ok answer → (answer.body ≡ None → ⊥)
         → IsTrue all.entries answer × (whole all.entries answer ≡ all) }
+{}
+
+/// Where the whole answer is an answer, and the body is as short as the format asks, it is an answer too.
+pub fn a_started_answer_is_an_answer()
+    ensures { (key : Key) (log : List LogEntry) (start : ℕ) (all answer : AnswerFile) (body : List ℕ)
+        → whole_answer key log ≡ Some all → started_answer key log start ≡ Ok answer → IsAnswer all
+        → IsLog all.entries → answer.body ≡ Some body → length body ≤ most_body → IsAnswer answer }
 {}
 
 /// From whichever entry a network answers, an audit that isn't refused gives the report of the audit of its whole answer.
