@@ -6,3 +6,4 @@ pub mod Reports
 mod Timely
 pub mod Taken
 pub mod Audited
+mod Differing

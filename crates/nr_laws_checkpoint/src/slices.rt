@@ -1,10 +1,11 @@
 //! Answers that hold the entries of a log behind some.
 
-ghost use Rattle.std.specs.Prelude.{◌≡◌, ℕ, List};
-ghost use Rattle.nr_spec_log.specs.Chain.{LogEntry};
+ghost use Rattle.std.specs.Prelude.{◌≡◌, ℕ, List, false, true};
+ghost use Rattle.std.specs.List.{list_any};
+ghost use Rattle.nr_spec_log.specs.Chain.{LogEntry, links_of};
 ghost use Rattle.nr_spec_log.specs.Answer.{AnswerFile};
 ghost use Rattle.nr_spec_log.specs.Authenticator.{Authenticator};
-ghost use Rattle.nr_spec_history.specs.Conflicts.{Period, answer_value, conflicts_of};
+ghost use Rattle.nr_spec_history.specs.Conflicts.{Period, answer_links, answer_value, chain_of, conflicts_of, is_conflict, is_presented, is_stated};
 ghost use Rattle.nr_spec_report.specs.Wrong.{nothing_before};
 ghost use Rattle.nr_spec_truth.specs.Truths.{Truth};
 ghost use Rattle.nr_spec_outcome.specs.Outcome.{Audited, outcome, outcome_over, report_of};
@@ -37,4 +38,14 @@ pub fn a_slice_is_audited_as_its_log()
         → IsBehind before log answer → AreBefore period before
         → outcome_over root files truth (state_after nothing_before before) answer period auths
         ≡ outcome root files truth (whole log answer) period auths }
+{}
+
+/// Why the entries before an answer have to stand before the period: an authenticator that is presented and states one of
+/// them is no conflict of the log, and is one of the answer.
+pub fn a_late_slice_has_other_conflicts()
+    ensures { (root : List ℕ) (before log : List LogEntry) (answer : AnswerFile) (period : Period) (a : Authenticator)
+        → IsBehind before log answer → is_presented root answer.asn period a ≡ true
+        → list_any (is_stated a) (links_of (chain_of (whole log answer)) before) ≡ true
+        → (is_conflict root answer.asn period (answer_links (whole log answer)) a ≡ false)
+        × (is_conflict root answer.asn period (answer_links answer) a ≡ true) }
 {}

@@ -1,2 +1,4 @@
 mod Bases
 mod Outcomes
+mod Fitting
+mod Started

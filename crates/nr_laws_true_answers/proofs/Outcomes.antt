@@ -81,7 +81,7 @@ true_given root files truth log answer period auths log_is t a =
     ∙ true_over root files truth log answer period auths (late_fact answer period) log_is t a refl
 
 -- what isn't refused is what was given
-not_refused : (late : Option Late) (given : Result Report Fact) (report : Report) → with_late late given ≡ Ok report → given ≡ Ok report
+pub not_refused : (late : Option Late) (given : Result Report Fact) (report : Report) → with_late late given ≡ Ok report → given ≡ Ok report
 not_refused None (Ok other) report is = ap (λ (r : Report). Ok r) (report_is other report is)
   where
     report_is : (x y : Report) → (let r : Result Report Refusal = Ok x in r) ≡ Ok y → x ≡ y
