@@ -1,5 +1,5 @@
 -- What decoding gives, in the words of the definitions.
-use Rattle.std.specs.Prelude.{ℕ, ◌≡◌, ◌×◌, Err, List, None, Ok, Option, Result, map, slice_index, slice_index_or}
+use Rattle.std.specs.Prelude.{ℕ, ◌≡◌, Err, List, None, Ok, Option, Result, map, slice_index, slice_index_or}
 use Rattle.std.specs.List.{range_with_len}
 use Rattle.nr_spec_wire.specs.Reading.{Read, Spot}
 use Rattle.nr_spec_counts.specs.Tallies.{Tally}
