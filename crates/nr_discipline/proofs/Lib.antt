@@ -6,3 +6,4 @@ pub mod RowsRead
 pub mod TimesRead
 pub mod KnownRead
 pub mod RowsEnd
+pub mod BodyRead

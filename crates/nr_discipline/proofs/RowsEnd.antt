@@ -1,5 +1,5 @@
 -- A row that stands behind all others, put among them.
-use Rattle.std.proofs.Common.{◌≡◌, ℕ, Bool, true, false, cond, ◌&&◌, T, List, [], ◌∷◌, ◌++◌, Option, Some, None, Result, Ok, Err, refl, ap, sym, subst, ◌∙◌}
+use Rattle.std.proofs.Common.{◌≡◌, Bool, true, false, cond, ◌&&◌, T, List, [], ◌∷◌, ◌++◌, Option, Some, None, Ok, refl, ap, sym, subst, ◌∙◌}
 use Rattle.std.specs.List.{AllByRecursion}
 use Rattle.std.specs.List.Sorted.{IsStrictlySortedBy}
 use Rattle.std.specs.Map.{keys_of}
@@ -12,8 +12,8 @@ use Rattle.std.specs.FinMap.Entries.{below_all, same_entries}
 use Rattle.nr_spec_bgp.specs.Attributes.{AttributeBlock}
 use Rattle.nr_spec_routes.specs.Keys.{AreAscending, Key, Row, key_cmp, route_in}
 use Rattle.nr_spec_routes.proofs.KeyOrder.{exact_keys, keys_total}
-use Rattle.nr_spec_wire.specs.Reading.{Read, Spot, ◌>>=◌, wants}
-use Rattle.nr_spec_wire.proofs.Steps.{bind_ok, ok_is}
+use Rattle.nr_spec_wire.specs.Reading.{Spot, wants}
+use Rattle.nr_spec_wire.proofs.Steps.{bind_ok, ok_is, wants_ok}
 use Rattle.nr_spec_bodies.specs.Reading.{is_behind, key_at, route_at, row_at}
 
 is_equal : (o : Ordering) → is_eq o ≡ true → o ≡ Equal
@@ -102,17 +102,13 @@ one_more (r ∷ rows) k next b c less h = (above_one_more r.0 rows k next b c le
 pub next_behind : (rows new : List Row) (k : Key) (b : AttributeBlock) → new ≡ rows ++ (k, b) ∷ [] → AreAscending (rows ++ (k, b) ∷ []) → TakesBehind (Some k) new
 next_behind rows new k b is up next c h = subst (λ (l : List Row). AreAscending (l ++ (next, c) ∷ [])) (sym is) (one_more rows k next b c (is_less _ h) up)
 
-wanted : {A : Type 0} (test : Bool) (place : ℕ) (x y : A) → wants test place x ≡ Ok y → (test ≡ true) × (x ≡ y)
-wanted true place x y e = (refl, ok_is x y e)
-wanted false place x y e = absurd cc
-
 -- a row that is read stands behind the one before
 pub read_behind : (before : Option Key) (s next : Spot) (r : Row) → row_at before s ≡ Ok (r, next) → is_behind before r.0 ≡ true
 unfolding row_at
 read_behind before s next r e =
     let a = bind_ok (key_at s) _ (r, next) e in
     let b = bind_ok (wants (is_behind before a.0.0) s.at a.0) _ (r, next) a.2 in
-    let w = wanted (is_behind before a.0.0) s.at a.0 b.0 b.1 in
+    let w = wants_ok (is_behind before a.0.0) s.at a.0 b.0 b.1 in
     let c = bind_ok (route_at b.0.1) _ (r, next) b.2 in
     let same : b.0.0 ≡ r.0 = ap (λ (x : Row × Spot). x.0.0) (ok_is ((b.0.0, c.0.0), c.0.1) (r, next) c.2) in
     subst (λ (k : Key). is_behind before k ≡ true) (ap (λ (x : Key × Spot). x.0) w.1 ∙ same) w.0

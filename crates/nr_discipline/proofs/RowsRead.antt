@@ -1,5 +1,5 @@
 -- A loop over rows: those that were read, joined with what reading the others gives, are what reading all gives.
-use Rattle.std.proofs.Common.{◌≡◌, map, ℕ, zero, suc, ◌+◌, ◌-◌, ◌<◌, ◌≤◌, List, [], ◌∷◌, ◌++◌, Option, Some, None, Result, Ok, Err, refl, sym, ap, subst, ◌∙◌, append_assoc, append-nil, arith}
+use Rattle.std.proofs.Common.{◌≡◌, ℕ, zero, suc, ◌+◌, ◌-◌, ◌<◌, ◌≤◌, List, [], ◌∷◌, ◌++◌, Option, Some, Ok, Err, refl, sym, ap, ◌∙◌, append_assoc, append-nil, arith}
 use Rattle.nr_spec_wire.specs.Reading.{Spot, Read, ◌>>=◌}
 use Rattle.nr_spec_routes.specs.Keys.{Key, Row}
 use Rattle.nr_spec_bodies.specs.Reading.{row_at, rows_behind}

@@ -1,4 +1,4 @@
-use Rattle.std.proofs.Common.{rules, Option, None, Ok, ◌≡◌, ℕ, List, ◌<◌, length, ap, arith, ◌∙◌}
+use Rattle.std.proofs.Common.{rules, Option, None, Ok, ◌≡◌, ℕ, length, ap, arith, ◌∙◌}
 use Rattle.std.proofs.lemmas.List.{length-replicate, length-set}
 use Rattle.std.proofs.lemmas.Result.{err_from_is_err_and}
 use Rattle.nr_bytes.specs.Views.{offset_of}
@@ -21,7 +21,7 @@ pub returns-in_err-known-clause-value : goal.returns-in_err-known-clause-value
 returns-in_err-known-clause-value c =
     let p = err_from_is_err_and c.from_residual.result c.from_residual.ensures.1 in
     let failed = time_fails known_at 256 c.loop-n.n c.loop-n.cursor (offset_of c.in_err-known.field-0.0) (known_below c.loop-n.n c.loop-n.sends c.loop-n.acked c.loop-n.oldest)
-        (times_at known_at 256 c.args.cursor.now) c.loop-n-test.true c.in_err-known.ensures.value c.loop-n.invariant.so_far in
+    (times_at known_at 256 c.args.cursor.now) c.loop-n-test.true c.in_err-known.ensures.value c.loop-n.invariant.so_far in
     rw (p.1, p.2) failed
 
 pub loop-n-preserved : goal.loop-n-preserved

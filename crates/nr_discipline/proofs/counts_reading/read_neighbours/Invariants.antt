@@ -1,4 +1,4 @@
-use Rattle.std.proofs.Common.{◌≡◌, ℕ, ◌-◌, length}
+use Rattle.std.proofs.Common.{◌≡◌, ◌-◌, length}
 use Rattle.nr_spec_wire.specs.Reading.{IsOnward}
 use Rattle.nr_spec_bodies.specs.Reading.{known_at, times_at}
 use Rattle.nr_discipline.specs.Decoded.{known_below}

@@ -1,4 +1,4 @@
-use Rattle.std.proofs.Common.{◌≡◌, ℕ, ◌-◌, None}
+use Rattle.std.proofs.Common.{◌≡◌, ◌-◌, None}
 use Rattle.nr_spec_wire.specs.Reading.{IsOnward}
 use Rattle.nr_spec_bodies.specs.Reading.{rows_behind}
 use Rattle.nr_discipline.proofs.RowsRead.{behind}
