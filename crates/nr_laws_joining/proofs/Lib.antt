@@ -1,0 +1,4 @@
+mod Told
+mod Sights
+mod Rows
+mod Stated
