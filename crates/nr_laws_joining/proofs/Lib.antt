@@ -2,3 +2,4 @@ mod Told
 mod Sights
 mod Rows
 mod Stated
+mod Meeting

@@ -12,9 +12,9 @@ use Rattle.nr_spec_promises.specs.Files.{PromiseFile, first_promised}
 use Rattle.nr_spec_promises.specs.Moments.{Mark, View, entries_before, marks_after, moments, view_after}
 use Rattle.nr_spec_promises.specs.Broken.{is_bad, is_broken, moment_at}
 use Rattle.nr_spec_promises.specs.Found.{broken_at, run_at}
-use Rattle.nr_laws_joining.specs.Parts.{Cuts, first_part, second_part}
+use Rattle.nr_laws_joining.specs.Parts.{Cuts, first_part, last_view, second_part}
 use Rattle.nr_laws_joining.proofs.Told.{marks_parts}
-use Rattle.nr_laws_joining.proofs.Sights.{last_view, same_sight}
+use Rattle.nr_laws_joining.proofs.Sights.{same_sight}
 
 -- a row that ends among the first moments ends there, whatever follows
 ends_there : (close other : ℕ) (xs ys : List Moment) → last_after true xs ≡ false → row_end close (xs ++ ys) ≡ row_end other xs
@@ -27,7 +27,7 @@ ends_there close other (m ∷ xs) ys h = by m.bad h (ends_there close other xs y
     by false h ih = refl
 
 -- the span from a moment to a time
-abbrev span_to : Moment → ℕ → List Span
+abbrev pub span_to : Moment → ℕ → List Span
 span_to m n = record { begin = m.begin; end = n } ∷ []
 
 run_same : (before : Bool) (close other : ℕ) (m : Moment) (xs ys : List Moment) → last_after m.bad xs ≡ false → run_from before close m (xs ++ ys) ≡ run_from before other m xs
@@ -49,12 +49,12 @@ runs_join before close other (m ∷ xs) ys h =
 first_not_bad : (close : ℕ) (m : Moment) (ys : List Moment) → m.bad ≡ false → runs_of close (m ∷ ys) ≡ runs_after false close ys
 first_not_bad close m ys h = λ i. cond (h i && true) (span_to m (row_end close ys)) [] ++ runs_after (h i) close ys
 
-last_bad : (files : List PromiseFile) (truth : Truth) (key : Key) (view : View) (marks : List Mark) (before : Bool) → is_bad files truth view key ≡ before
+pub last_bad : (files : List PromiseFile) (truth : Truth) (key : Key) (view : View) (marks : List Mark) (before : Bool) → is_bad files truth view key ≡ before
     → last_after before (map (moment_at files truth key) marks) ≡ is_bad files truth (last_view view marks) key
 last_bad files truth key view [] before is = sym is
 last_bad files truth key view (m ∷ marks) before is = last_bad files truth key m.view marks (is_bad files truth m.view key) refl
 
-map-append : {A B : Type 0} (f : A → B) (xs ys : List A) → map f (xs ++ ys) ≡ map f xs ++ map f ys
+pub map-append : {A B : Type 0} (f : A → B) (xs ys : List A) → map f (xs ++ ys) ≡ map f xs ++ map f ys
 map-append f [] ys = refl
 map-append f (x ∷ xs) ys = ap (λ l. f x ∷ l) (map-append f xs ys)
 

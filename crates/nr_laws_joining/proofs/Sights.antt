@@ -1,6 +1,6 @@
 -- The last moment of the first part shows what the second part begins with.
 use Rattle.std.proofs.Common.{◌≡◌, ℕ, ◌+◌, ◌<◌, ◌≤◌, Bool, true, false, cond, List, [], ◌∷◌, ◌++◌, Option, refl, sym, ap, ◌∙◌, append_assoc, append-nil, arith}
-use Rattle.std.specs.Prelude.{nat_le, nat_lt}
+use Rattle.std.specs.Prelude.{drop, nat_le, nat_lt}
 use Rattle.std.specs.List.Sorted.{IsNonDecreasingBy}
 use Rattle.std.proofs.lemmas.Bool.Decides.{nat_tests}
 use Rattle.nr_spec_log.specs.Chain.{LogEntry}
@@ -8,13 +8,8 @@ use Rattle.nr_spec_history.specs.Conflicts.{Period}
 use Rattle.nr_spec_report.specs.Wrong.{Base, is_within}
 use Rattle.nr_spec_promises.specs.Files.{PromiseFile, first_promised}
 use Rattle.nr_spec_promises.specs.Moments.{Mark, View, entries_before, marks_after, moments, view_after}
-use Rattle.nr_laws_joining.specs.Parts.{Cuts, first_part, second_part}
+use Rattle.nr_laws_joining.specs.Parts.{Cuts, first_part, last_view, second_part}
 use Rattle.nr_laws_joining.proofs.Told.{IsSince, above, late_first, since_all, up_to}
-
--- the view of the last of these moments, or another where there is none
-abbrev pub last_view : View → List Mark → View
-last_view view [] = view
-last_view view (m ∷ marks) = last_view m.view marks
 
 is_low : (n m : ℕ) → n < m → nat_lt n m ≡ true
 is_low n m h = grind (arith, nat_tests)
@@ -105,3 +100,10 @@ module _ (files : List PromiseFile) (base : Base) (first : Option (List ℕ)) (p
 pub same_sight : (files : List PromiseFile) (base : Base) (period : Period) (last : ℕ) (view : View) (es : List LogEntry) → Cuts period last → IsNonDecreasingBy (λ (e : LogEntry). e.time) es
     → last_view view (moments files base (first_part period last) es) ≡ view_after files base (first_promised es) (entries_before (second_part period last) es)
 same_sight files base period last view es cuts order = shows files base (first_promised es) period last cuts 0 [] es (since_all es order)
+
+pub boundary : (files : List PromiseFile) (base : Base) (period : Period) (last : ℕ) (view : View) (es : List LogEntry) → Cuts period last → IsNonDecreasingBy (λ (e : LogEntry). e.time) es
+    → moments files base (second_part period last) es
+    ≡ record { begin = last + 1; view = last_view view (moments files base (first_part period last) es) } ∷ drop 1 (moments files base (second_part period last) es)
+boundary files base period last view es cuts order =
+    let same = sym (same_sight files base period last view es cuts order) in
+    λ i. record { begin = last + 1; view = same i } ∷ marks_after files base (first_promised es) (second_part period last) [] es

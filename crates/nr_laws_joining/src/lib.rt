@@ -5,5 +5,6 @@
 mod joining;
 
 pub use joining::{
-    broken_runs_join_where_none_is_bad, conflicts_join, moments_join, wrong_entries_join,
+    a_run_that_stands_goes_on, broken_runs_join_where_none_is_bad, conflicts_join, moments_join,
+    wrong_entries_join,
 };
