@@ -1,6 +1,6 @@
 pub mod Order
 pub mod Covered
-pub mod Blocks
+pub mod ReadAgain
 pub mod InPlaces
 pub mod Removed
 pub mod Short

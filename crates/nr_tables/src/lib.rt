@@ -4,14 +4,16 @@
 //! neighbour looks at no other row.
 #![tactic(auto)]
 
+mod block;
+mod blocks;
 mod change;
 mod effect;
 mod gathered;
 mod key;
 mod places;
-mod route;
 mod row;
 mod rows;
+mod shared;
 mod standing;
 mod state;
 mod table;
