@@ -7,3 +7,5 @@ pub mod Short
 pub mod Gathering
 pub mod OthersOnce
 pub mod First
+pub mod Numbers
+pub mod Named

@@ -1,6 +1,7 @@
 -- Rows that share blocks of attributes.
-use Rattle.std.specs.Prelude.{[], ℕ, ◌&&◌, ◌==◌, ◌≡◌, ◌<◌, Bool, List, false, get_or, length, map, suc, zero, ◌∷◌, beq}
-use Rattle.std.specs.List.{AllByRecursion, count_by}
+use Rattle.std.specs.Prelude.{[], ℕ, ◌&&◌, ◌+◌, ◌==◌, ◌≡◌, ◌<◌, Bool, List, false, get_or, if◌then◌else◌, map, nat_lt, suc, ◌∷◌}
+use Rattle.std.specs.Bool.{beq}
+use Rattle.std.specs.List.{AllByRecursion}
 use Rattle.std.specs.Map.{values_of}
 use Rattle.std.specs.Set.{distinct_count}
 use Rattle.std.specs.Str.{bytes_eq}
@@ -43,12 +44,13 @@ number_at numbers place = get_or numbers place 0
 
 -- the places that no row names
 abbrev pub unnamed : List ℕ → ℕ
-unnamed numbers = count_by (λ n. n == 0) numbers
+unnamed [] = 0
+unnamed (n ∷ numbers) = (if n == 0 then 1 else 0) + unnamed numbers
 
 -- each block reads, and the places that no row names are counted
-pub record IsPool (blocks : List AttributeBlock) (numbers : List ℕ) (unused : ℕ) : Type 0 where
+pub record IsPool (blocks : List AttributeBlock) (numbers : List ℕ) (count : ℕ) : Type 0 where
   pub stored : AllByRecursion (λ a. IsStored a.as4 a.block) blocks
-  pub unused : unused ≡ unnamed numbers
+  pub unused : count ≡ unnamed numbers
 
 -- ---- rows
 
@@ -58,15 +60,16 @@ named_rows blocks rows = map (λ e. (e.0, block_at blocks e.1)) rows
 
 -- how many rows name a place
 abbrev pub times : ℕ → List (Key × ℕ) → ℕ
-times place rows = count_by (λ e. place == e.1) rows
+times place [] = 0
+times place (e ∷ rows) = (if place == e.1 then 1 else 0) + times place rows
 
 -- the number of each place is that of the rows that name it
 abbrev pub AreCounted : List ℕ → List (Key × ℕ) → Type 0
 AreCounted numbers rows = (place : ℕ) → times place rows ≡ number_at numbers place
 
--- each row names a place
-abbrev pub AreNamed : List AttributeBlock → List (Key × ℕ) → Type 0
-AreNamed blocks rows = AllByRecursion (λ e. e.1 < length blocks) rows
+-- each row names a place that some row names
+abbrev pub AreNamed : List ℕ → List (Key × ℕ) → Type 0
+AreNamed numbers rows = AllByRecursion (λ e. 0 < number_at numbers e.1) rows
 
 -- rows, and the blocks that a new row may name
 pub record Shared : Type 0 where
@@ -78,5 +81,4 @@ pub record Shared : Type 0 where
 -- the new places, the first of which is `next`
 abbrev pub renamed : ℕ → List ℕ → List ℕ
 renamed next [] = []
-renamed next (zero ∷ numbers) = next ∷ renamed next numbers
-renamed next (suc n ∷ numbers) = next ∷ renamed (suc next) numbers
+renamed next (n ∷ numbers) = next ∷ renamed (if nat_lt 0 n then suc next else next) numbers

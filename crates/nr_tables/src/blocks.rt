@@ -1,6 +1,6 @@
 //! Blocks of attributes, each once.
 
-ghost use Rattle.std.specs.Prelude.{◌≡◌, ◌==◌, ◌<◌, ◌≤◌, ◌+◌, ◌^◌, [], ℕ, length, IfOk, OnOk, OnErr, get_or, if◌then◌else◌};
+ghost use Rattle.std.specs.Prelude.{◌≡◌, ◌==◌, ◌<◌, ◌+◌, ◌^◌, [], ℕ, length, nat_lt, IfOk, OnErr, get_or, if◌then◌else◌};
 ghost use Rattle.std.specs.List.{IsDistinct};
 ghost use Rattle.std.specs.Map.{values_of};
 ghost use Rattle.nr_tables.specs.Shared.{block_at, number_at, renamed, same_block, unnamed};
@@ -17,30 +17,30 @@ use std::marker::Model;
 #[derive(Drop)]
 pub struct Blocks {
     alloc: Global,
-    map: IndexMap<Block, usize>,
+    places: IndexMap<Block, usize>,
     // How many places have the number 0.
     unused: usize,
 }
 
 impl Model for Blocks {
-    ghost use Rattle.std.specs.Prelude.{map};
+    ghost use Rattle.std.specs.Prelude.{List, map};
     ghost use Rattle.std.specs.Map.{keys_of, values_of};
     ghost use Rattle.nr_tables.specs.Shared.{Pool, IsPool, kept};
 
     ghost Value = { Pool };
 
-    ghost view = { λ b. record { blocks = map kept (keys_of b.map.entries); numbers = values_of b.map.entries } };
+    ghost view = { λ b. record { blocks = map kept (keys_of b.places.entries); numbers = values_of b.places.entries } };
 
-    ghost invariant = { λ b. IsPool (map kept (keys_of b.map.entries)) (values_of b.map.entries) b.unused };
+    ghost invariant = { λ b. IsPool (map kept (keys_of b.places.entries)) (values_of b.places.entries) b.unused };
 }
 
 // The places that blocks get where those that no row names are left out.
-fn new_places(alloc: Global, map: &IndexMap<Block, usize>) -> Result<Vec<usize>, Memory>
-    ensures { IfOk result (λ names. names.items ≡ renamed 0 (values_of map.now.entries)) }
+fn new_places(alloc: Global, places: &IndexMap<Block, usize>) -> Result<Vec<usize>, Memory>
+    ensures { IfOk result (λ names. names.items ≡ renamed 0 (values_of places.now.entries)) }
 {
     let mut names = Vec::new(alloc);
     let mut next = 0;
-    for number in map.values() {
+    for number in places.values() {
         names.push(next)?;
         if *number > 0 {
             next += 1;
@@ -56,7 +56,7 @@ impl Blocks {
     {
         Blocks {
             alloc,
-            map: IndexMap::new(alloc),
+            places: IndexMap::new(alloc),
             unused: 0,
         }
     }
@@ -65,16 +65,16 @@ impl Blocks {
     pub fn place_of(&mut self, attrs: &Attrs<'_>) -> Result<usize, Memory>
         requires { length attrs.now.block < 2 ^ 16 }
         ensures place { IfOk result (λ i. (i < length self.new.blocks) × (block_at self.new.blocks i ≡ attrs.now)) }
-        ensures blocks { (i : ℕ) → i < length self.old.blocks → block_at self.new.blocks i ≡ block_at self.old.blocks i }
+        ensures blocks { (i : ℕ) → 0 < number_at self.old.numbers i → block_at self.new.blocks i ≡ block_at self.old.blocks i }
         ensures numbers { (i : ℕ) → number_at self.new.numbers i ≡ number_at self.old.numbers i }
         ensures memory { OnErr result (self.new ≡ self.old) }
     {
         let block = Block::copy_of(self.alloc, attrs)?;
-        if let Some(place) = self.map.get_index_of(&block) {
+        if let Some(place) = self.places.get_index_of(&block) {
             return Ok(place);
         }
-        let place = self.map.len();
-        self.map.insert(block, 0)?;
+        let place = self.places.len();
+        self.places.insert(block, 0)?;
         self.unused += 1;
         Ok(place)
     }
@@ -87,8 +87,8 @@ impl Blocks {
         ensures numbers { (i : ℕ)
             → number_at self.new.numbers i ≡ number_at self.old.numbers i + (if i == place then 1 else 0) }
     {
-        let number = self.map[place];
-        self.map[place] = number + 1;
+        let number = self.places[place];
+        self.places[place] = number + 1;
         if number == 0 {
             self.unused -= 1;
         }
@@ -101,8 +101,8 @@ impl Blocks {
         ensures numbers { (i : ℕ)
             → number_at self.new.numbers i + (if i == place then 1 else 0) ≡ number_at self.old.numbers i }
     {
-        let number = self.map[place];
-        self.map[place] = number - 1;
+        let number = self.places[place];
+        self.places[place] = number - 1;
         if number == 1 {
             self.unused += 1;
         }
@@ -110,11 +110,11 @@ impl Blocks {
 
     /// The attributes in a place.
     pub fn attrs(&self, place: usize) -> Attrs<'_>
-        requires { place < length self.now.blocks }
+        requires { 0 < number_at self.now.numbers place }
         ensures same { result ≡ block_at self.now.blocks place }
         ensures short { length result.block < 2 ^ 16 }
     {
-        match self.map.get_index(place) {
+        match self.places.get_index(place) {
             Some((block, _)) => block.attrs(),
             None => unreachable!(),
         }
@@ -126,7 +126,7 @@ impl Blocks {
         ensures distinct { IsDistinct same_block self.now.blocks }
         ensures lengths { length self.now.numbers ≡ length self.now.blocks }
     {
-        self.map.len() - self.unused
+        self.places.len() - self.unused
     }
 
     /// How many places no row names.
@@ -146,13 +146,13 @@ impl Blocks {
             → (i : ℕ) × (0 < number_at self.old.numbers i) × (get_or names.items i 0 ≡ k)) }
         ensures memory { OnErr result (self.new ≡ self.old) }
     {
-        let names = new_places(self.alloc, &self.map)?;
-        self.map.retain(
+        let names = new_places(self.alloc, &self.places)?;
+        self.places.retain(
             |_block: &Block, number: &mut usize| -> bool
                 ensures { (result ≡ nat_lt 0 number.old) × (number.new ≡ number.old) }
             { *number > 0 },
         );
-        self.map.shrink_to_fit();
+        self.places.shrink_to_fit();
         self.unused = 0;
         Ok(names)
     }

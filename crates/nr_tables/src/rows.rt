@@ -27,12 +27,12 @@ impl<'a> Model for Rows<'a> {
 
     ghost view = { λ r. named_rows r.blocks.now.blocks r.rows };
 
-    ghost invariant = { λ r. AreNamed r.blocks.now.blocks r.rows };
+    ghost invariant = { λ r. AreNamed r.blocks.now.numbers r.rows };
 }
 
 impl<'a> Rows<'a> {
     pub(crate) fn new(rows: Iter<'a, Key, usize>, blocks: &'a Blocks) -> Rows<'a>
-        requires { AreNamed blocks.now.blocks rows }
+        requires { AreNamed blocks.now.numbers rows }
         ensures { result ≡ named_rows blocks.now.blocks rows }
     {
         Rows { rows, blocks }

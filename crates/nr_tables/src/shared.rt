@@ -1,7 +1,6 @@
 //! Rows that share blocks of attributes.
 
 ghost use Rattle.std.specs.Prelude.{◌≡◌, ◌<◌, ◌^◌, [], true, length, map, get_or, Some, None, is_some, OnOk, OnErr, IfOk, if◌then◌else◌};
-ghost use Rattle.std.specs.List.{AllByRecursion};
 ghost use Rattle.std.specs.Map.{lookup, remove_entry};
 ghost use Rattle.std.specs.BTreeMap.{is_at};
 ghost use Rattle.std.specs.Ordering.{is_eq};
@@ -92,15 +91,13 @@ fn remove_row(rows: &mut BTreeMap<Key, usize>, blocks: &mut Blocks, key: Key) ->
 
 // Gives each row the new name of its place.
 fn rename(rows: &mut BTreeMap<Key, usize>, names: &Vec<usize>)
-    requires { AllByRecursion (λ e. e.1 < length names.now.items) rows.old.entries }
     ensures { rows.new.entries ≡ map (λ e. (e.0, get_or names.now.items e.1 0)) rows.old.entries }
 {
     rows.retain(
         |_key: &Key, place: &mut usize| -> bool
-            requires { place.old < length names.now.items }
-            ensures { (result ≡ true) × (place.new ≡ get_or names.now.items place.old 0) }
+            ensures { (result ≡ true) × (place.new ≡ get_or names.entry.now.items place.old 0) }
         {
-            *place = names[*place];
+            *place = names.get(*place).copied().unwrap_or(0);
             true
         },
     );

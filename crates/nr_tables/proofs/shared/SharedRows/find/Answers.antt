@@ -1,7 +1,7 @@
 use Rattle.std.proofs.Common.{◌≡◌, subst, option_copied}
 use Rattle.std.specs.Map.{lookup}
 use Rattle.std.specs.BTreeMap.{is_at}
-use Rattle.nr_tables.proofs.table.Table.find.Goals as goal
+use Rattle.nr_tables.proofs.shared.SharedRows.find.Goals as goal
 use Rattle.nr_tables.proofs.Order.{same_order}
 
 pub returns : goal.returns

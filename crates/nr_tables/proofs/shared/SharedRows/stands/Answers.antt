@@ -7,7 +7,7 @@ use Rattle.std.specs.declared.cmp.Ordering.{Ordering}
 use Rattle.nr_spec_bgp.specs.Attributes.{AttributeBlock}
 use Rattle.nr_spec_routes.specs.Keys as keys
 use Rattle.nr_spec_routes.specs.Keys.{key_cmp, route_in}
-use Rattle.nr_tables.proofs.table.Table.stands.Goals as goal
+use Rattle.nr_tables.proofs.shared.SharedRows.stands.Goals as goal
 use Rattle.nr_tables.proofs.First.{first, none_stands, some_stands}
 use Rattle.nr_tables.proofs.Order.{same_order}
 
