@@ -9,3 +9,4 @@ pub mod OthersOnce
 pub mod First
 pub mod Numbers
 pub mod Named
+pub mod Stock

@@ -1,6 +1,8 @@
 -- Rows with the blocks that they name.
-use Rattle.std.proofs.Common.{◌≡◌, ◌==◌, ℕ, zero, suc, ◌+◌, ◌<◌, ◌≤◌, Bool, true, false, cond, ◌||◌, ◌&&◌, List, [], ◌∷◌, length, refl, ap, sym, subst, ◌∙◌, arith}
-use Rattle.std.specs.Prelude.{get_or, map, nat_lt}
+use Rattle.std.proofs.Common.{◌≡◌, ◌==◌, ℕ, zero, suc, ◌+◌, ◌<◌, ◌≤◌, Bool, true, false, cond, ◌||◌, ◌&&◌, List, [], ◌∷◌, Option, Some, None, length, refl, ap, sym, subst, ◌∙◌, arith}
+use Rattle.std.specs.Prelude.{get_or, is_some, map, nat_lt, option_map}
+use Rattle.std.specs.BTreeMap.{is_at}
+use Rattle.std.specs.List.Sorted.{IsStrictlySortedBy}
 use Rattle.std.specs.Bool.{beq}
 use Rattle.std.specs.List.{AllByRecursion, IsDistinct, list_any}
 use Rattle.std.specs.Map.{keys_of, lookup, remove_entry, values_of}
@@ -10,9 +12,11 @@ use Rattle.std.specs.Str.{bytes_eq}
 use Rattle.std.proofs.lemmas.Bool.Decides.{nat_tests}
 use Rattle.std.proofs.lemmas.Bool.{eqb-true}
 use Rattle.std.proofs.lemmas.Cmp.{nat_list_eq_equiv}
-use Rattle.std.proofs.lemmas.Map.Made.{length-from_keys}
+use Rattle.std.proofs.lemmas.Map.Made.{keys_of-map_values, length-from_keys, lookup-map_values}
 use Rattle.nr_spec_bgp.specs.Attributes.{AttributeBlock}
-use Rattle.nr_spec_routes.specs.Keys.{Key, Row}
+use Rattle.nr_spec_routes.specs.Keys.{Key, Row, AreAscending, key_cmp, route_in, standing}
+use Rattle.nr_tables.specs.Others.{others, prefixes_of}
+use Rattle.nr_tables.proofs.OthersOnce.{others_stand}
 use Rattle.nr_tables.specs.Shared.{block_at, blocks_in, named_rows, number_at, same_block, times, unnamed, AreCounted, AreNamed}
 
 -- ---- the same rows
@@ -35,6 +39,39 @@ named_removed blocks test (e ∷ rows) = by (test e.0) (named_removed blocks tes
         → named_rows blocks (cond b rows (e ∷ remove_entry test rows)) ≡ cond b (named_rows blocks rows) ((e.0, block_at blocks e.1) ∷ remove_entry test (named_rows blocks rows))
     by true ih = refl
     by false ih = ap (λ l. (e.0, block_at blocks e.1) ∷ l) ih
+
+-- ---- what is at a key
+
+pub route_named : (blocks : List AttributeBlock) (rows : List (Key × ℕ)) (q : Key) → route_in (named_rows blocks rows) q ≡ option_map (block_at blocks) (lookup (is_at (key_cmp q)) rows)
+route_named blocks rows q = lookup-map_values (block_at blocks) (is_at (key_cmp q)) rows
+
+pub some_named : (blocks : List AttributeBlock) (o : Option ℕ) → is_some (option_map (block_at blocks) o) ≡ is_some o
+some_named blocks (Some place) = refl
+some_named blocks None = refl
+
+pub row_there : (blocks : List AttributeBlock) (rows : List (Key × ℕ)) (q : Key) → is_some (lookup (is_at (key_cmp q)) rows) ≡ is_some (route_in (named_rows blocks rows) q)
+row_there blocks rows q = sym (ap is_some (route_named blocks rows q) ∙ some_named blocks (lookup (is_at (key_cmp q)) rows))
+
+-- a key gets a place, or none
+pub route_changed : (blocks : List AttributeBlock) (rows new : List (Key × ℕ)) (q : Key) (b : Bool) (o : Option ℕ) → lookup (is_at (key_cmp q)) new ≡ cond b o (lookup (is_at (key_cmp q)) rows)
+    → route_in (named_rows blocks new) q ≡ cond b (option_map (block_at blocks) o) (route_in (named_rows blocks rows) q)
+route_changed blocks rows new q b o h = route_named blocks new q ∙ ap (option_map (block_at blocks)) h ∙ by b
+  where
+    by : (b : Bool) → option_map (block_at blocks) (cond b o (lookup (is_at (key_cmp q)) rows)) ≡ cond b (option_map (block_at blocks) o) (route_in (named_rows blocks rows) q)
+    by true = refl
+    by false = sym (route_named blocks rows q)
+
+-- ---- the keys
+
+pub keys_named : (blocks : List AttributeBlock) (rows : List (Key × ℕ)) → keys_of (named_rows blocks rows) ≡ keys_of rows
+keys_named blocks rows = keys_of-map_values (block_at blocks) rows
+
+pub named_ascend : (blocks : List AttributeBlock) (rows : List (Key × ℕ)) → IsStrictlySortedBy key_cmp (keys_of rows) → AreAscending (named_rows blocks rows)
+named_ascend blocks rows h = subst (IsStrictlySortedBy key_cmp) (sym (keys_named blocks rows)) h
+
+pub prefixes_named : (blocks : List AttributeBlock) (rows : List (Key × ℕ)) → IsStrictlySortedBy key_cmp (keys_of rows) → others None (prefixes_of rows) ≡ standing (named_rows blocks rows)
+prefixes_named blocks rows h =
+    ap (λ (keys : List Key). others None (map (λ (key : Key). key.prefix) keys)) (sym (keys_named blocks rows)) ∙ others_stand (named_rows blocks rows) (named_ascend blocks rows h)
 
 -- ---- how many different blocks
 
@@ -176,10 +213,13 @@ named_here q blocks (e ∷ rows) i h is = by (i == e.1) refl (λ h. named_here q
     last true u h = refl
     last false u h = h
 
+    rest-of : (n : ℕ) → 0 < 0 + n → 0 < n
+    rest-of n h = omega (arith, h)
+
     by : (b : Bool) → (i == e.1) ≡ b → (0 < times i rows → list_any (same_block q) (values_of (named_rows blocks rows)) ≡ true) → 0 < cond b 1 0 + times i rows
         → (same_block q (block_at blocks e.1) || list_any (same_block q) (values_of (named_rows blocks rows))) ≡ true
     by true e-is rest h = ap (λ t. t || list_any (same_block q) (values_of (named_rows blocks rows))) (ap (λ n. same_block q (block_at blocks n)) (sym (eqb-true i e.1 e-is)) ∙ is)
-    by false e-is rest h = last (same_block q (block_at blocks e.1)) (list_any (same_block q) (values_of (named_rows blocks rows))) (rest h)
+    by false e-is rest h = last (same_block q (block_at blocks e.1)) (list_any (same_block q) (values_of (named_rows blocks rows))) (rest (rest-of (times i rows) h))
 
 same_members : (blocks : List AttributeBlock) (ns : List ℕ) (rows : List (Key × ℕ)) → length ns ≡ length blocks → AreCounted ns rows → (q : AttributeBlock)
     → is_member same_block (in_use blocks ns) q ≡ is_member same_block (values_of (named_rows blocks rows)) q

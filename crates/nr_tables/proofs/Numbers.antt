@@ -71,72 +71,73 @@ number_more (n ∷ ns) (suc i) = number_more ns i
 -- ---- how many rows name a place
 
 module _ {K : Type 0} where
-  -- how many rows of these name it
-  abbrev pub count : ℕ → List (K × ℕ) → ℕ
-  count i [] = 0
-  count i (e ∷ rows) = cond (i == e.1) 1 0 + count i rows
-
-  pub count_most : (i : ℕ) (rows : List (K × ℕ)) → count i rows ≤ length rows
+  pub count_most : (i : ℕ) (rows : List (K × ℕ)) → times i rows ≤ length rows
   count_most i [] = omega arith
   count_most i (e ∷ rows) = by (i == e.1) (count_most i rows)
     where
-      by : (b : Bool) → count i rows ≤ length rows → cond b 1 0 + count i rows ≤ suc (length rows)
+      by : (b : Bool) → times i rows ≤ length rows → cond b 1 0 + times i rows ≤ suc (length rows)
       by true h = omega (arith, h)
       by false h = omega (arith, h)
 
-  pub count_removed : (test : K → Bool) (rows : List (K × ℕ)) (o i : ℕ) → lookup test rows ≡ Some o → cond (i == o) 1 0 + count i (remove_entry test rows) ≡ count i rows
+  pub count_removed : (test : K → Bool) (rows : List (K × ℕ)) (o i : ℕ) → lookup test rows ≡ Some o → cond (i == o) 1 0 + times i (remove_entry test rows) ≡ times i rows
   count_removed test [] o i h = absurd cc
   count_removed test (e ∷ rows) o i h = by (test e.0) h (count_removed test rows o i)
     where
-      by : (b : Bool) → cond b (Some e.1) (lookup test rows) ≡ Some o → (lookup test rows ≡ Some o → cond (i == o) 1 0 + count i (remove_entry test rows) ≡ count i rows)
-          → cond (i == o) 1 0 + count i (cond b rows (e ∷ remove_entry test rows)) ≡ cond (i == e.1) 1 0 + count i rows
-      by true h ih = ap (λ n. cond (i == n) 1 0 + count i rows) (sym (some_is e.1 o h))
-      by false h ih = let is = ih h in moved (cond (i == o) 1 0) (cond (i == e.1) 1 0) (count i (remove_entry test rows)) (count i rows) is
+      by : (b : Bool) → cond b (Some e.1) (lookup test rows) ≡ Some o → (lookup test rows ≡ Some o → cond (i == o) 1 0 + times i (remove_entry test rows) ≡ times i rows)
+          → cond (i == o) 1 0 + times i (cond b rows (e ∷ remove_entry test rows)) ≡ cond (i == e.1) 1 0 + times i rows
+      by true h ih = ap (λ n. cond (i == n) 1 0 + times i rows) (sym (some_is e.1 o h))
+      by false h ih = let is = ih h in moved (cond (i == o) 1 0) (cond (i == e.1) 1 0) (times i (remove_entry test rows)) (times i rows) is
         where
           moved : (a b c d : ℕ) → a + c ≡ d → a + (b + c) ≡ b + d
           moved a b c d h = omega (arith, h)
 
   -- a row in the place of another
   pub count_swapped : (cmp : K → K → Ordering) (k : K) (v : ℕ) (rows : List (K × ℕ)) (o i : ℕ) → length (insert_entry cmp rows k v) ≡ length rows → lookup (is_at (cmp k)) rows ≡ Some o
-      → cond (i == o) 1 0 + count i (insert_entry cmp rows k v) ≡ cond (i == v) 1 0 + count i rows
+      → cond (i == o) 1 0 + times i (insert_entry cmp rows k v) ≡ cond (i == v) 1 0 + times i rows
   count_swapped cmp k v [] o i same h = absurd cc
   count_swapped cmp k v (e ∷ rows) o i same h = by (cmp k e.0) same h (count_swapped cmp k v rows o i)
     where
       by : (c : Ordering) → length (match_ordering c ((k, v) ∷ e ∷ rows) ((e.0, v) ∷ rows) (e ∷ insert_entry cmp rows k v)) ≡ suc (length rows) → cond (is_eq c) (Some e.1) (lookup (is_at (cmp k)) rows) ≡ Some o
-          → (length (insert_entry cmp rows k v) ≡ length rows → lookup (is_at (cmp k)) rows ≡ Some o → cond (i == o) 1 0 + count i (insert_entry cmp rows k v) ≡ cond (i == v) 1 0 + count i rows)
-          → cond (i == o) 1 0 + count i (match_ordering c ((k, v) ∷ e ∷ rows) ((e.0, v) ∷ rows) (e ∷ insert_entry cmp rows k v)) ≡ cond (i == v) 1 0 + (cond (i == e.1) 1 0 + count i rows)
+          → (length (insert_entry cmp rows k v) ≡ length rows → lookup (is_at (cmp k)) rows ≡ Some o → cond (i == o) 1 0 + times i (insert_entry cmp rows k v) ≡ cond (i == v) 1 0 + times i rows)
+          → cond (i == o) 1 0 + times i (match_ordering c ((k, v) ∷ e ∷ rows) ((e.0, v) ∷ rows) (e ∷ insert_entry cmp rows k v)) ≡ cond (i == v) 1 0 + (cond (i == e.1) 1 0 + times i rows)
       by Less same h ih = absurd (omega (arith, same))
       by Equal same h ih =
-          ap (λ n. cond (i == n) 1 0 + (cond (i == v) 1 0 + count i rows)) (sym (some_is e.1 o h)) ∙ turned (cond (i == e.1) 1 0) (cond (i == v) 1 0) (count i rows)
+          ap (λ n. cond (i == n) 1 0 + (cond (i == v) 1 0 + times i rows)) (sym (some_is e.1 o h)) ∙ turned (cond (i == e.1) 1 0) (cond (i == v) 1 0) (times i rows)
         where
           turned : (a b c : ℕ) → a + (b + c) ≡ b + (a + c)
           turned a b c = omega arith
       by Greater same h ih = let is = ih (omega (arith, same)) h in
-          moved (cond (i == o) 1 0) (cond (i == e.1) 1 0) (count i (insert_entry cmp rows k v)) (cond (i == v) 1 0) (count i rows) is
+          moved (cond (i == o) 1 0) (cond (i == e.1) 1 0) (times i (insert_entry cmp rows k v)) (cond (i == v) 1 0) (times i rows) is
         where
           moved : (a b c d e : ℕ) → a + c ≡ d + e → a + (b + c) ≡ d + (b + e)
           moved a b c d e h = omega (arith, h)
 
   -- a new row
-  pub count_added : (cmp : K → K → Ordering) (k : K) (v : ℕ) (rows : List (K × ℕ)) (i : ℕ) → length (insert_entry cmp rows k v) ≡ length rows + 1 → count i (insert_entry cmp rows k v) ≡ cond (i == v) 1 0 + count i rows
+  pub count_added : (cmp : K → K → Ordering) (k : K) (v : ℕ) (rows : List (K × ℕ)) (i : ℕ) → length (insert_entry cmp rows k v) ≡ length rows + 1 → times i (insert_entry cmp rows k v) ≡ cond (i == v) 1 0 + times i rows
   count_added cmp k v [] i more = refl
   count_added cmp k v (e ∷ rows) i more = by (cmp k e.0) more (count_added cmp k v rows i)
     where
       by : (c : Ordering) → length (match_ordering c ((k, v) ∷ e ∷ rows) ((e.0, v) ∷ rows) (e ∷ insert_entry cmp rows k v)) ≡ suc (length rows) + 1
-          → (length (insert_entry cmp rows k v) ≡ length rows + 1 → count i (insert_entry cmp rows k v) ≡ cond (i == v) 1 0 + count i rows)
-          → count i (match_ordering c ((k, v) ∷ e ∷ rows) ((e.0, v) ∷ rows) (e ∷ insert_entry cmp rows k v)) ≡ cond (i == v) 1 0 + (cond (i == e.1) 1 0 + count i rows)
+          → (length (insert_entry cmp rows k v) ≡ length rows + 1 → times i (insert_entry cmp rows k v) ≡ cond (i == v) 1 0 + times i rows)
+          → times i (match_ordering c ((k, v) ∷ e ∷ rows) ((e.0, v) ∷ rows) (e ∷ insert_entry cmp rows k v)) ≡ cond (i == v) 1 0 + (cond (i == e.1) 1 0 + times i rows)
       by Less more ih = refl
       by Equal more ih = absurd (omega (arith, more))
       by Greater more ih = let is = ih (omega (arith, more)) in
-          moved (cond (i == e.1) 1 0) (count i (insert_entry cmp rows k v)) (cond (i == v) 1 0) (count i rows) is
+          moved (cond (i == e.1) 1 0) (times i (insert_entry cmp rows k v)) (cond (i == v) 1 0) (times i rows) is
         where
           moved : (b c d e : ℕ) → c ≡ d + e → b + c ≡ d + (b + e)
           moved b c d e h = omega (arith, h)
 
+  pub times_found : (test : K → Bool) (rows : List (K × ℕ)) (o : ℕ) → lookup test rows ≡ Some o → 0 < times o rows
+  times_found test rows o h = positive o (times o (remove_entry test rows)) (times o rows) (count_removed test rows o o h)
+    where
+      positive : (o a b : ℕ) → cond (o == o) 1 0 + a ≡ b → 0 < b
+      positive o a b h = grind (arith, nat_tests)
+
   -- what holds of each place that some row names holds of the place of each row
-  pub at_each : (P : ℕ → Type 0) (rows : List (K × ℕ)) → ((i : ℕ) → 0 < count i rows → P i) → AllByRecursion (λ e. P e.1) rows
+  pub at_each : (P : ℕ → Type 0) (rows : List (K × ℕ)) → ((i : ℕ) → 0 < times i rows → P i) → AllByRecursion (λ e. P e.1) rows
   at_each P [] h = tt
-  at_each P (e ∷ rows) h = (h e.1 (own e.1 (count e.1 rows)), at_each P rows (λ i named. h i (more (cond (i == e.1) 1 0) (count i rows) named)))
+  at_each P (e ∷ rows) h = (h e.1 (own e.1 (times e.1 rows)), at_each P rows (λ i named. h i (more (cond (i == e.1) 1 0) (times i rows) named)))
     where
       own : (n m : ℕ) → 0 < cond (n == n) 1 0 + m
       own n m = grind (arith, nat_tests)
@@ -144,11 +145,11 @@ module _ {K : Type 0} where
       more : (a b : ℕ) → 0 < b → 0 < a + b
       more a b h = omega (arith, h)
 
-  pub count_renamed : (f : ℕ → ℕ) (k i : ℕ) (rows : List (K × ℕ)) → AllByRecursion (λ e. (k == f e.1) ≡ (i == e.1)) rows → count k (map (λ e. (e.0, f e.1)) rows) ≡ count i rows
+  pub count_renamed : (f : ℕ → ℕ) (k i : ℕ) (rows : List (K × ℕ)) → AllByRecursion (λ e. (k == f e.1) ≡ (i == e.1)) rows → times k (map (λ e. (e.0, f e.1)) rows) ≡ times i rows
   count_renamed f k i [] all = refl
   count_renamed f k i (e ∷ rows) all = (λ j. cond (all.0 j) 1 0 + count_renamed f k i rows all.1 j)
 
-  pub count_none : (f : ℕ → ℕ) (k : ℕ) (rows : List (K × ℕ)) → AllByRecursion (λ e. (k == f e.1) ≡ false) rows → count k (map (λ e. (e.0, f e.1)) rows) ≡ 0
+  pub count_none : (f : ℕ → ℕ) (k : ℕ) (rows : List (K × ℕ)) → AllByRecursion (λ e. (k == f e.1) ≡ false) rows → times k (map (λ e. (e.0, f e.1)) rows) ≡ 0
   count_none f k [] all = refl
   count_none f k (e ∷ rows) all = (λ j. cond (all.0 j) 1 0 + count_none f k rows all.1 j)
 

@@ -59,7 +59,7 @@ abbrev pub named_rows : List AttributeBlock → List (Key × ℕ) → List Row
 named_rows blocks rows = map (λ e. (e.0, block_at blocks e.1)) rows
 
 -- how many rows name a place
-abbrev pub times : ℕ → List (Key × ℕ) → ℕ
+abbrev pub times : {K : Type 0} → ℕ → List (K × ℕ) → ℕ
 times place [] = 0
 times place (e ∷ rows) = (if place == e.1 then 1 else 0) + times place rows
 

@@ -2,7 +2,7 @@
 
 ghost use Rattle.std.specs.Prelude.{◌≡◌, ◌==◌, ◌<◌, ◌+◌, ◌^◌, [], ℕ, length, nat_lt, IfOk, OnErr, get_or, if◌then◌else◌};
 ghost use Rattle.std.specs.List.{IsDistinct};
-ghost use Rattle.std.specs.Map.{values_of};
+ghost use Rattle.std.specs.Map.{keys_of, values_of};
 ghost use Rattle.nr_tables.specs.Shared.{block_at, number_at, renamed, same_block, unnamed};
 
 use crate::block::Block;
@@ -49,6 +49,19 @@ fn new_places(alloc: Global, places: &IndexMap<Block, usize>) -> Result<Vec<usiz
     Ok(names)
 }
 
+// Gives a place another number.
+fn set_number(places: &mut IndexMap<Block, usize>, place: usize, number: usize)
+    requires { place < length places.old.entries }
+    ensures keys { keys_of places.new.entries ≡ keys_of places.old.entries }
+    ensures numbers { (i : ℕ) → number_at (values_of places.new.entries) i
+        ≡ (if i == place then number else number_at (values_of places.old.entries) i) }
+    ensures unnamed { (if number_at (values_of places.old.entries) place == 0 then 1 else 0)
+        + unnamed (values_of places.new.entries)
+        ≡ (if number == 0 then 1 else 0) + unnamed (values_of places.old.entries) }
+{
+    places[place] = number;
+}
+
 impl Blocks {
     pub fn new(alloc: Global) -> Blocks
         ensures blocks { result.blocks ≡ [] }
@@ -88,7 +101,7 @@ impl Blocks {
             → number_at self.new.numbers i ≡ number_at self.old.numbers i + (if i == place then 1 else 0) }
     {
         let number = self.places[place];
-        self.places[place] = number + 1;
+        set_number(&mut self.places, place, number + 1);
         if number == 0 {
             self.unused -= 1;
         }
@@ -101,8 +114,9 @@ impl Blocks {
         ensures numbers { (i : ℕ)
             → number_at self.new.numbers i + (if i == place then 1 else 0) ≡ number_at self.old.numbers i }
     {
+        self.places.len();
         let number = self.places[place];
-        self.places[place] = number - 1;
+        set_number(&mut self.places, place, number - 1);
         if number == 1 {
             self.unused += 1;
         }
@@ -137,8 +151,7 @@ impl Blocks {
     /// Leaves out the places that no row names. Says the new place of each of the others.
     pub fn renew(&mut self) -> Result<Vec<usize>, Memory>
         ensures names { IfOk result (λ names. (i : ℕ) → 0 < number_at self.old.numbers i
-            → (i < length names.items)
-            × (block_at self.new.blocks (get_or names.items i 0) ≡ block_at self.old.blocks i)
+            → (block_at self.new.blocks (get_or names.items i 0) ≡ block_at self.old.blocks i)
             × (number_at self.new.numbers (get_or names.items i 0) ≡ number_at self.old.numbers i)) }
         ensures apart { IfOk result (λ names. (i j : ℕ) → 0 < number_at self.old.numbers i
             → 0 < number_at self.old.numbers j → get_or names.items i 0 ≡ get_or names.items j 0 → i ≡ j) }

@@ -33,7 +33,7 @@ impl<'a> Model for Rows<'a> {
 impl<'a> Rows<'a> {
     pub(crate) fn new(rows: Iter<'a, Key, usize>, blocks: &'a Blocks) -> Rows<'a>
         requires { AreNamed blocks.now.numbers rows }
-        ensures { result ≡ named_rows blocks.now.blocks rows }
+        ensures { result ≡ named_rows blocks.now.blocks rows.entry }
     {
         Rows { rows, blocks }
     }

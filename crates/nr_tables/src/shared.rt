@@ -164,8 +164,10 @@ impl SharedRows {
     pub fn find(&self, key: Key) -> Option<Attrs<'_>>
         ensures { result ≡ route_in self.now.rows key }
     {
-        let place = self.rows.get(&key)?;
-        Some(self.blocks.attrs(*place))
+        match self.rows.get(&key) {
+            Some(place) => Some(self.blocks.attrs(*place)),
+            None => None,
+        }
     }
 
     pub fn len(&self) -> usize
