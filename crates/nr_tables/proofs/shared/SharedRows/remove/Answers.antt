@@ -1,0 +1,10 @@
+use Rattle.nr_tables.proofs.shared.SharedRows.remove.Goals as goal
+
+pub returns-clause-was : goal.returns-clause-was
+returns-clause-was c = ?
+
+pub returns-clause-left : goal.returns-clause-left
+returns-clause-left c = ?
+
+pub returns-clause-rows : goal.returns-clause-rows
+returns-clause-rows c = ?
