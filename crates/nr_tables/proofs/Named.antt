@@ -1,7 +1,8 @@
 -- Rows with the blocks that they name.
 use Rattle.std.proofs.Common.{◌≡◌, ◌==◌, ℕ, zero, suc, ◌+◌, ◌<◌, ◌≤◌, Bool, true, false, cond, ◌||◌, ◌&&◌, List, [], ◌∷◌, Option, Some, None, length, refl, ap, sym, subst, ◌∙◌, arith}
 use Rattle.std.specs.Prelude.{get_or, is_some, map, nat_lt, option_map}
-use Rattle.std.specs.BTreeMap.{is_at}
+use Rattle.std.specs.BTreeMap.{insert_entry, is_at}
+use Rattle.std.specs.declared.cmp.Ordering.{Ordering}
 use Rattle.std.specs.List.Sorted.{IsStrictlySortedBy}
 use Rattle.std.specs.Bool.{beq}
 use Rattle.std.specs.List.{AllByRecursion, IsDistinct, list_any}
@@ -16,15 +17,16 @@ use Rattle.std.proofs.lemmas.Map.Made.{keys_of-map_values, length-from_keys, loo
 use Rattle.nr_spec_bgp.specs.Attributes.{AttributeBlock}
 use Rattle.nr_spec_routes.specs.Keys.{Key, Row, AreAscending, key_cmp, route_in, standing}
 use Rattle.nr_tables.specs.Others.{others, prefixes_of}
+use Rattle.nr_tables.proofs.Numbers.{at_each, count_added, count_none, count_removed, count_renamed, count_swapped, times_found}
 use Rattle.nr_tables.proofs.OthersOnce.{others_stand}
 use Rattle.nr_tables.specs.Shared.{block_at, blocks_in, named_rows, number_at, same_block, times, unnamed, AreCounted, AreNamed}
 
 -- ---- the same rows
 
-pub rows_kept : (old new : List AttributeBlock) (f : ℕ → ℕ) (rows : List (Key × ℕ)) → AllByRecursion (λ e. block_at new (f e.1) ≡ block_at old e.1) rows
+pub renamed_rows : (old new : List AttributeBlock) (ns : List ℕ) (f : ℕ → ℕ) (rows : List (Key × ℕ)) → AreNamed ns rows → ((i : ℕ) → 0 < number_at ns i → block_at new (f i) ≡ block_at old i)
     → named_rows new (map (λ e. (e.0, f e.1)) rows) ≡ named_rows old rows
-rows_kept old new f [] all = refl
-rows_kept old new f (e ∷ rows) all = (λ i. (e.0, all.0 i) ∷ rows_kept old new f rows all.1 i)
+renamed_rows old new ns f [] all same = refl
+renamed_rows old new ns f (e ∷ rows) all same = (λ i. (e.0, same e.1 all.0 i) ∷ renamed_rows old new ns f rows all.1 same i)
 
 pub rows_stay : (old new : List AttributeBlock) (ns : List ℕ) (rows : List (Key × ℕ)) → AreNamed ns rows → ((i : ℕ) → 0 < number_at ns i → block_at new i ≡ block_at old i)
     → named_rows new rows ≡ named_rows old rows
@@ -60,6 +62,48 @@ route_changed blocks rows new q b o h = route_named blocks new q ∙ ap (option_
     by : (b : Bool) → option_map (block_at blocks) (cond b o (lookup (is_at (key_cmp q)) rows)) ≡ cond b (option_map (block_at blocks) o) (route_in (named_rows blocks rows) q)
     by true = refl
     by false = sym (route_named blocks rows q)
+
+-- a row names a place that rows name
+pub named_by : (test : Key → Bool) (ns : List ℕ) (rows : List (Key × ℕ)) (place : ℕ) → AreCounted ns rows → lookup test rows ≡ Some place → 0 < number_at ns place
+named_by test ns rows place counted h = subst (λ n. 0 < n) (counted place) (times_found test rows place h)
+
+pub all_named : (ns : List ℕ) (rows : List (Key × ℕ)) → AreCounted ns rows → AreNamed ns rows
+all_named ns rows counted = at_each (λ i. 0 < number_at ns i) rows (λ i h. subst (λ n. 0 < n) (counted i) h)
+
+pub left_counted : (test : Key → Bool) (ns new : List ℕ) (rows left : List (Key × ℕ)) (o : ℕ) → AreCounted ns rows → lookup test rows ≡ Some o → left ≡ remove_entry test rows
+    → ((i : ℕ) → number_at new i + cond (i == o) 1 0 ≡ number_at ns i) → AreCounted new left
+left_counted test ns new rows left o counted h is numbers i =
+    let gone = count_removed test rows o i h in
+    let old = counted i in
+    let now = numbers i in
+    let same : times i left ≡ times i (remove_entry test rows) = ap (times i) is in
+    less (cond (i == o) 1 0) (times i (remove_entry test rows)) (times i rows) (times i left) (number_at ns i) (number_at new i) gone old now same
+  where
+    less : (a b c d e f : ℕ) → a + b ≡ c → c ≡ e → f + a ≡ e → d ≡ b → d ≡ f
+    less a b c d e f g o n s = omega (arith, g, o, n, s)
+
+pub swapped_counted : (cmp : Key → Key → Ordering) (k : Key) (v : ℕ) (ns left new : List ℕ) (rows put : List (Key × ℕ)) (o : ℕ) → AreCounted ns rows → put ≡ insert_entry cmp rows k v → length put ≡ length rows + 0
+    → lookup (is_at (cmp k)) rows ≡ Some o → ((i : ℕ) → number_at left i + cond (i == o) 1 0 ≡ number_at ns i) → ((i : ℕ) → number_at new i ≡ number_at left i + cond (i == v) 1 0) → AreCounted new put
+swapped_counted cmp k v ns left new rows put o counted is size h leaves names i =
+    let same : length (insert_entry cmp rows k v) ≡ length rows = sym (ap length is) ∙ size ∙ none (length rows) in
+    all (cond (i == o) 1 0) (cond (i == v) 1 0) (times i (insert_entry cmp rows k v)) (times i rows) (times i put) (number_at ns i) (number_at left i) (number_at new i)
+    (count_swapped cmp k v rows o i same h) (counted i) (ap (times i) is) (leaves i) (names i)
+  where
+    none : (n : ℕ) → n + 0 ≡ n
+    none n = omega arith
+
+    all : (a b c d e n l w : ℕ) → a + c ≡ b + d → d ≡ n → e ≡ c → l + a ≡ n → w ≡ l + b → e ≡ w
+    all a b c d e n l w g o s x y = omega (arith, g, o, s, x, y)
+
+pub new_counted : (cmp : Key → Key → Ordering) (k : Key) (v : ℕ) (ns new : List ℕ) (rows put : List (Key × ℕ)) → AreCounted ns rows → put ≡ insert_entry cmp rows k v → length put ≡ length rows + 1
+    → ((i : ℕ) → number_at new i ≡ number_at ns i + cond (i == v) 1 0) → AreCounted new put
+new_counted cmp k v ns new rows put counted is size names i =
+    let more : length (insert_entry cmp rows k v) ≡ length rows + 1 = sym (ap length is) ∙ size in
+    all (cond (i == v) 1 0) (times i (insert_entry cmp rows k v)) (times i rows) (times i put) (number_at ns i) (number_at new i)
+    (count_added cmp k v rows i more) (counted i) (ap (times i) is) (names i)
+  where
+    all : (b c d e n w : ℕ) → c ≡ b + d → d ≡ n → e ≡ c → w ≡ n + b → e ≡ w
+    all b c d e n w g o s y = omega (arith, g, o, s, y)
 
 -- ---- the keys
 
@@ -245,3 +289,56 @@ blocks_counted blocks ns rows n same distinct counted is =
     let here = use_count blocks ns same in
     let equal : n ≡ length (in_use blocks ns) = omega (arith, here, is) in
     equal ∙ length-from_keys same_block_equiv (in_use blocks ns) (values_of (named_rows blocks rows)) (distinct_in_use blocks ns distinct) (same_members blocks ns rows same counted)
+
+-- ---- other names
+
+pub renamed_counted : (ns new : List ℕ) (rows : List (Key × ℕ)) (f : ℕ → ℕ) → AreCounted ns rows
+    → ((i : ℕ) → 0 < number_at ns i → number_at new (f i) ≡ number_at ns i)
+    → ((i j : ℕ) → 0 < number_at ns i → 0 < number_at ns j → f i ≡ f j → i ≡ j)
+    → ((k : ℕ) → 0 < number_at new k → (i : ℕ) × (0 < number_at ns i) × (f i ≡ k))
+    → AreCounted new (map (λ e. (e.0, f e.1)) rows)
+renamed_counted ns new rows f counted same apart all k = by (nat_lt 0 (number_at new k)) refl
+  where
+    named : AreNamed ns rows
+    named = all_named ns rows counted
+
+    each : {P Q : ℕ → Type 0} → ((i : ℕ) → P i → Q i) → (rows : List (Key × ℕ)) → AllByRecursion (λ e. P e.1) rows → AllByRecursion (λ e. Q e.1) rows
+    each f [] all = tt
+    each f (e ∷ rows) all = (f e.1 all.0, each f rows all.1)
+
+    some : (n : ℕ) → nat_lt 0 n ≡ true → 0 < n
+    some n h = grind (arith, nat_tests)
+
+    none : (n : ℕ) → nat_lt 0 n ≡ false → n ≡ 0
+    none n h = grind (arith, nat_tests)
+
+    apart-test : (a b : ℕ) → (a ≡ b → ⊥) → (a == b) ≡ false
+    apart-test a b h = by (a == b) refl
+      where
+        by : (t : Bool) → (a == b) ≡ t → (a == b) ≡ false
+        by true e = absurd (h (eqb-true a b e))
+        by false e = e
+
+    own : (n : ℕ) → (n == n) ≡ true
+    own n = grind (arith, nat_tests)
+
+    tests : (a b c d : ℕ) → (a ≡ b → c ≡ d) → (c ≡ d → a ≡ b) → (a == b) ≡ (c == d)
+    tests a b c d f g = by (a == b) (c == d) refl refl
+      where
+        by : (s t : Bool) → (a == b) ≡ s → (c == d) ≡ t → s ≡ t
+        by true true e h = refl
+        by false false e h = refl
+        by true false e h = absurd (let t = sym h ∙ ap (λ n. n == d) (f (eqb-true a b e)) ∙ own d in cc)
+        by false true e h = absurd (let t = sym e ∙ ap (λ n. n == b) (g (eqb-true c d h)) ∙ own b in cc)
+
+    by : (b : Bool) → nat_lt 0 (number_at new k) ≡ b → times k (map (λ e. (e.0, f e.1)) rows) ≡ number_at new k
+    by true h =
+        let x = all k (some (number_at new k) h) in
+        count_renamed f k x.0 rows (each (λ i used. tests k (f i) x.0 i (λ e. apart x.0 i x.1 used (x.2 ∙ e)) (λ e. sym x.2 ∙ ap f e)) rows named)
+        ∙ counted x.0 ∙ sym (same x.0 x.1) ∙ ap (number_at new) x.2
+    by false h =
+        count_none f k rows (each (λ i used. apart-test k (f i) (λ e. zero-some (number_at ns i) used (sym (same i used) ∙ ap (number_at new) (sym e) ∙ none (number_at new k) h))) rows named)
+        ∙ sym (none (number_at new k) h)
+      where
+        zero-some : (n : ℕ) → 0 < n → n ≡ 0 → ⊥
+        zero-some n h e = omega (arith, h, e)

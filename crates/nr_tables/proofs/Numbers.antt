@@ -71,9 +71,9 @@ number_more (n ∷ ns) (suc i) = number_more ns i
 -- ---- how many rows name a place
 
 module _ {K : Type 0} where
-  pub count_most : (i : ℕ) (rows : List (K × ℕ)) → times i rows ≤ length rows
-  count_most i [] = omega arith
-  count_most i (e ∷ rows) = by (i == e.1) (count_most i rows)
+  pub times_most : (i : ℕ) (rows : List (K × ℕ)) → times i rows ≤ length rows
+  times_most i [] = omega arith
+  times_most i (e ∷ rows) = by (i == e.1) (times_most i rows)
     where
       by : (b : Bool) → times i rows ≤ length rows → cond b 1 0 + times i rows ≤ suc (length rows)
       by true h = omega (arith, h)

@@ -5,6 +5,7 @@ use Rattle.std.specs.List.{AllByRecursion, IsDistinct}
 use Rattle.std.specs.Map.{keys_of, values_of}
 use Rattle.std.specs.Bool.{beq}
 use Rattle.std.specs.Str.{bytes_eq}
+use Rattle.std.proofs.lemmas.Bool.{eqb-true}
 use Rattle.std.proofs.lemmas.Bool.Decides.{nat_tests}
 use Rattle.std.proofs.lemmas.List.{get_or-map, get_or_append_left, get_or-append_right}
 use Rattle.std.proofs.lemmas.List.Quantifiers.{position-Some}
@@ -160,31 +161,21 @@ pool_set es new u v keys pool counts = record {
   unused = counts;
 }
 
--- the places that no row names, where one more row names a place or one fewer does
-pub first_named : (n k a b : ℕ) → n ≡ k → cond (n == 0) 1 0 + a ≡ cond (k + 1 == 0) 1 0 + b → (k == 0) ≡ true → b ≡ a + 1
-first_named n k a b is h e = grind (arith, nat_tests)
-
-pub again_named : (n k a b : ℕ) → n ≡ k → cond (n == 0) 1 0 + a ≡ cond (k + 1 == 0) 1 0 + b → (k == 0) ≡ false → b ≡ a
-again_named n k a b is h e = grind (arith, nat_tests)
-
-pub last_left : (n k a b : ℕ) → n ≡ k → cond (n == 0) 1 0 + a ≡ cond (k - 1 == 0) 1 0 + b → (k == 1) ≡ true → a ≡ b + 1
-last_left n k a b is h e = grind (arith, nat_tests)
-
 pub others_left : (n k a b : ℕ) → n ≡ k → 0 < n → cond (n == 0) 1 0 + a ≡ cond (k - 1 == 0) 1 0 + b → (k == 1) ≡ false → a ≡ b
 others_left n k a b is some h e = grind (arith, nat_tests)
+
+pub not_one : (k : ℕ) → (k ≡ 1 → ⊥) → (k == 1) ≡ false
+not_one k h = by (k == 1) refl
+  where
+    by : (b : Bool) → (k == 1) ≡ b → (k == 1) ≡ false
+    by true e = absurd (h (eqb-true k 1 e))
+    by false e = e
 
 at_place : (ns : List ℕ) (i place : ℕ) → (i == place) ≡ true → number_at ns i ≡ number_at ns place
 at_place ns i place h = ap (number_at ns) (number i place h)
   where
     number : (x y : ℕ) → (x == y) ≡ true → x ≡ y
     number x y h = grind (arith, nat_tests)
-
-pub one_more : (ns : List ℕ) (i place k new : ℕ) → number_at ns place ≡ k → new ≡ cond (i == place) (k + 1) (number_at ns i) → new ≡ number_at ns i + cond (i == place) 1 0
-one_more ns i place k new is h = by (i == place) (at_place ns i place) h
-  where
-    by : (b : Bool) → (b ≡ true → number_at ns i ≡ number_at ns place) → new ≡ cond b (k + 1) (number_at ns i) → new ≡ number_at ns i + cond b 1 0
-    by true at h = let same = at refl in omega (arith, same, h, is)
-    by false at h = omega (arith, h)
 
 pub one_less : (ns : List ℕ) (i place k new : ℕ) → 0 < number_at ns place → number_at ns place ≡ k → new ≡ cond (i == place) (k - 1) (number_at ns i) → new + cond (i == place) 1 0 ≡ number_at ns i
 one_less ns i place k new some is h = by (i == place) (at_place ns i place) h

@@ -79,6 +79,8 @@ fn remove_row(rows: &mut BTreeMap<Key, usize>, blocks: &mut Blocks, key: Key) ->
     ensures blocks { blocks.new.blocks ≡ blocks.old.blocks }
     ensures was { result ≡ is_some (lookup (is_at (key_cmp key)) rows.old.entries) }
     ensures left { rows.new.entries ≡ remove_entry (is_at (key_cmp key)) rows.old.entries }
+    ensures rows { (q : keys.Key) → lookup (is_at (key_cmp q)) rows.new.entries
+        ≡ (if is_eq (key_cmp key q) then None else lookup (is_at (key_cmp q)) rows.old.entries) }
 {
     match rows.remove(&key) {
         Some(left) => {

@@ -2,7 +2,7 @@ use Rattle.std.proofs.Common.{◌≡◌, ◌==◌, ℕ, ◌+◌, ◌<◌, cond, 
 use Rattle.std.specs.Map.{values_of}
 use Rattle.std.proofs.lemmas.Option.{get_or_from_slice_get}
 use Rattle.nr_tables.specs.Shared.{number_at, unnamed, Pool}
-use Rattle.nr_tables.proofs.Stock.{one_less, others_left, pool_set, unused_most}
+use Rattle.nr_tables.proofs.Stock.{not_one, one_less, others_left, pool_set, unused_most}
 use Rattle.nr_tables.proofs.blocks.Blocks.leave.Goals as goal
 
 pub overflow_add-self : goal.overflow_add-self
@@ -18,7 +18,7 @@ invariant_of-self-else-number-eq1 c =
     (c.self.invariant.unused ∙ sym (others_left _ c.index-number.result.now (unnamed (values_of c.set_number.new.places.entries)) (unnamed (values_of c.self.inside.places.entries))
     (get_or_from_slice_get (values_of c.self.inside.places.entries) c.args.place _ 0 c.index-number.ensures)
     (subst (λ (p : Pool). 0 < number_at p.numbers c.args.place) (sym c.self.view_is) c.requires)
-    c.set_number.ensures.unnamed c.if-number-eq1.false))
+    c.set_number.ensures.unnamed (not_one c.index-number.result.now c.if-number-eq1.false)))
 
 pub returns-then-number-eq1-clause-numbers : goal.returns-then-number-eq1-clause-numbers
 returns-then-number-eq1-clause-numbers c =

@@ -20,21 +20,21 @@ overflow_add-self c =
 pub invariant_of-self-2 : goal.invariant_of-self-2
 invariant_of-self-2 c =
     pool_more c.self.inside.places.entries c.insert.new.self.entries c.in_ok-block.block c.self.inside.unused
-    (c.in_ok-insert.ensures.entries ∙ insert_entry-new _ _ _ _ (none_some _ c.in_default.ensures.found)) c.self.invariant c.in_ok-block.ensures.stored
+    (c.in_ok-insert.ensures.entries ∙ insert_entry-new _ c.self.inside.places c.in_ok-block.block 0 (none_some _ c.in_default.ensures.found)) c.self.invariant c.in_ok-block.ensures.stored
 
 pub returns-clause-place : goal.returns-clause-place
 returns-clause-place c =
     new_block c.self.inside.places.entries c.insert.new.self.entries c.in_ok-block.block c.args.attrs.now c.len-place.result
-    (c.in_ok-insert.ensures.entries ∙ insert_entry-new _ _ _ _ (none_some _ c.in_default.ensures.found)) c.in_ok-block.ensures.same c.len-place.ensures.len
+    (c.in_ok-insert.ensures.entries ∙ insert_entry-new _ c.self.inside.places c.in_ok-block.block 0 (none_some _ c.in_default.ensures.found)) c.in_ok-block.ensures.same c.len-place.ensures.len
 
 pub returns-clause-blocks : goal.returns-clause-blocks
 returns-clause-blocks c =
     subst (λ (p : Pool). (i : ℕ) → 0 < number_at p.numbers i → block_at (blocks_of c.insert.new.self.entries) i ≡ block_at p.blocks i) c.self.view_is
     (λ i h. old_block c.self.inside.places.entries c.insert.new.self.entries c.in_ok-block.block i
-    (c.in_ok-insert.ensures.entries ∙ insert_entry-new _ _ _ _ (none_some _ c.in_default.ensures.found)) h)
+    (c.in_ok-insert.ensures.entries ∙ insert_entry-new _ c.self.inside.places c.in_ok-block.block 0 (none_some _ c.in_default.ensures.found)) h)
 
 pub returns-clause-numbers : goal.returns-clause-numbers
 returns-clause-numbers c =
     subst (λ (p : Pool). (i : ℕ) → number_at (values_of c.insert.new.self.entries) i ≡ number_at p.numbers i) c.self.view_is
     (λ i. old_number c.self.inside.places.entries c.insert.new.self.entries c.in_ok-block.block i
-    (c.in_ok-insert.ensures.entries ∙ insert_entry-new _ _ _ _ (none_some _ c.in_default.ensures.found)))
+    (c.in_ok-insert.ensures.entries ∙ insert_entry-new _ c.self.inside.places c.in_ok-block.block 0 (none_some _ c.in_default.ensures.found)))
