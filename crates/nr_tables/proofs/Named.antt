@@ -1,6 +1,6 @@
 -- Rows with the blocks that they name.
-use Rattle.std.proofs.Common.{◌≡◌, ◌==◌, ℕ, zero, suc, ◌+◌, ◌<◌, ◌≤◌, Bool, true, false, cond, ◌||◌, ◌&&◌, List, [], ◌∷◌, Option, Some, None, length, refl, ap, sym, subst, ◌∙◌, arith}
-use Rattle.std.specs.Prelude.{get_or, is_some, map, nat_lt, option_map}
+use Rattle.std.proofs.Common.{◌≡◌, ◌==◌, ℕ, zero, suc, ◌+◌, ◌<◌, Bool, true, false, cond, ◌||◌, ◌&&◌, List, [], ◌∷◌, Option, Some, None, length, refl, ap, sym, subst, ◌∙◌, arith}
+use Rattle.std.specs.Prelude.{is_some, map, nat_lt, option_map}
 use Rattle.std.specs.BTreeMap.{insert_entry, is_at}
 use Rattle.std.specs.declared.cmp.Ordering.{Ordering}
 use Rattle.std.specs.List.Sorted.{IsStrictlySortedBy}
@@ -15,7 +15,7 @@ use Rattle.std.proofs.lemmas.Bool.{eqb-true}
 use Rattle.std.proofs.lemmas.Cmp.{nat_list_eq_equiv}
 use Rattle.std.proofs.lemmas.Map.Made.{keys_of-map_values, length-from_keys, lookup-map_values}
 use Rattle.nr_spec_bgp.specs.Attributes.{AttributeBlock}
-use Rattle.nr_spec_routes.specs.Keys.{Key, Row, AreAscending, key_cmp, route_in, standing}
+use Rattle.nr_spec_routes.specs.Keys.{Key, AreAscending, key_cmp, route_in, standing}
 use Rattle.nr_tables.specs.Others.{others, prefixes_of}
 use Rattle.nr_tables.proofs.Numbers.{at_each, count_added, count_none, count_removed, count_renamed, count_swapped, times_found}
 use Rattle.nr_tables.proofs.OthersOnce.{others_stand}

@@ -1,5 +1,5 @@
 -- Blocks in their places.
-use Rattle.std.proofs.Common.{◌≡◌, ◌==◌, ℕ, zero, suc, ◌+◌, ◌-◌, ◌<◌, ◌≤◌, ◌^◌, Bool, true, false, cond, ◌&&◌, List, [], ◌∷◌, ◌++◌, Option, Some, None, length, refl, ap, sym, subst, ◌∙◌, arith}
+use Rattle.std.proofs.Common.{◌≡◌, ◌==◌, ℕ, zero, suc, ◌+◌, ◌-◌, ◌<◌, ◌≤◌, Bool, true, false, cond, ◌&&◌, List, [], ◌∷◌, ◌++◌, Option, Some, None, length, refl, ap, sym, subst, ◌∙◌, arith}
 use Rattle.std.specs.Prelude.{filter, get_or, map, nat_lt, position, slice_get, is_some}
 use Rattle.std.specs.List.{AllByRecursion, IsDistinct}
 use Rattle.std.specs.Map.{keys_of, values_of}
@@ -7,7 +7,7 @@ use Rattle.std.specs.Bool.{beq}
 use Rattle.std.specs.Str.{bytes_eq}
 use Rattle.std.proofs.lemmas.Bool.{eqb-true}
 use Rattle.std.proofs.lemmas.Bool.Decides.{nat_tests}
-use Rattle.std.proofs.lemmas.List.{get_or-map, get_or_append_left, get_or-append_right}
+use Rattle.std.proofs.lemmas.List.{get_or-map}
 use Rattle.std.proofs.lemmas.List.Quantifiers.{position-Some}
 use Rattle.nr_spec_bgp.specs.Attributes.{AttributeBlock}
 use Rattle.nr_attrs.specs.Reading.{list_in}
@@ -118,9 +118,9 @@ numbers_more (e ∷ es) b = ap (λ l. e.1 ∷ l) (numbers_more es b)
 
 pub pool_more : (es new : Entries) (b : Block) (u : ℕ) → new ≡ es ++ (b, 0) ∷ [] → IsPool (blocks_of es) (values_of es) u → IsStored b.as4 b.bytes.items → IsPool (blocks_of new) (values_of new) (u + 1)
 pool_more es new b u is pool stored = record {
-    stored = subst (λ l. AllByRecursion (λ a. IsStored a.as4 a.block) (blocks_of l)) (sym is) (last es pool.stored);
-    unused = ap (λ n. n + 1) pool.unused ∙ sym (unnamed_more (values_of es)) ∙ sym (ap unnamed (numbers_more es b)) ∙ sym (ap (λ l. unnamed (values_of l)) is);
-  }
+  stored = subst (λ l. AllByRecursion (λ a. IsStored a.as4 a.block) (blocks_of l)) (sym is) (last es pool.stored);
+  unused = ap (λ n. n + 1) pool.unused ∙ sym (unnamed_more (values_of es)) ∙ sym (ap unnamed (numbers_more es b)) ∙ sym (ap (λ l. unnamed (values_of l)) is);
+}
   where
     last : (es : Entries) → AllByRecursion (λ a. IsStored a.as4 a.block) (blocks_of es) → AllByRecursion (λ a. IsStored a.as4 a.block) (blocks_of (es ++ (b, 0) ∷ []))
     last [] all = (stored, tt)
@@ -194,9 +194,9 @@ in_use es = filter (λ e. nat_lt 0 e.1) es
 
 pub pool_used : (es new : Entries) (u : ℕ) → new ≡ in_use es → IsPool (blocks_of es) (values_of es) u → IsPool (blocks_of new) (values_of new) 0
 pool_used es new u is pool = record {
-    stored = subst (λ l. AllByRecursion (λ a. IsStored a.as4 a.block) (blocks_of l)) (sym is) (kept_ones es pool.stored);
-    unused = sym (ap (λ l. unnamed (values_of l)) is ∙ none_unnamed kept no_block es);
-  }
+  stored = subst (λ l. AllByRecursion (λ a. IsStored a.as4 a.block) (blocks_of l)) (sym is) (kept_ones es pool.stored);
+  unused = sym (ap (λ l. unnamed (values_of l)) is ∙ none_unnamed kept no_block es);
+}
   where
     kept_ones : (es : Entries) → AllByRecursion (λ a. IsStored a.as4 a.block) (blocks_of es) → AllByRecursion (λ a. IsStored a.as4 a.block) (blocks_of (in_use es))
     kept_ones [] all = tt

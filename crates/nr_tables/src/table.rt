@@ -38,11 +38,7 @@ impl Model for Table {
 
 // Removes a row, and gathers its prefix where it was there.
 #[tactic(auto, using(crate::proofs::Removed::gone, crate::proofs::Removed::not_there))]
-fn remove_row(
-    rows: &mut SharedRows,
-    key: Key,
-    gathered: &mut Gathered,
-) -> Result<(), Memory>
+fn remove_row(rows: &mut SharedRows, key: Key, gathered: &mut Gathered) -> Result<(), Memory>
     ensures rows { (q : keys.Key)
         → route_in rows.new.rows q ≡ (if is_eq (key_cmp key q) then None else route_in rows.old.rows q) }
     ensures named { OnOk result ((p : Cidr)
@@ -80,12 +76,7 @@ fn empty_rows(
 }
 
 // Puts a row. Only a new one wants a place by neighbour.
-fn put_row(
-    rows: &mut SharedRows,
-    places: &mut Places,
-    key: Key,
-    place: usize,
-) -> Result<(), Memory>
+fn put_row(rows: &mut SharedRows, places: &mut Places, key: Key, place: usize) -> Result<(), Memory>
     requires held { AreHeld rows.old.rows places.old }
     requires within { place < length rows.old.blocks }
     ensures held { AreHeld rows.new.rows places.new }

@@ -1,9 +1,8 @@
-use Rattle.std.proofs.Common.{◌≡◌, ℕ, ◌==◌, ◌+◌, ◌<◌, Some, None, cond, ap, sym, subst, ◌∙◌, arith}
+use Rattle.std.proofs.Common.{◌≡◌, Some, None, cond, sym, subst}
 use Rattle.std.specs.Map.{lookup, remove_entry}
 use Rattle.std.specs.BTreeMap.{is_at}
 use Rattle.nr_spec_routes.specs.Keys as keys
 use Rattle.nr_spec_routes.specs.Keys.{key_cmp}
-use Rattle.nr_tables.specs.Shared.{number_at, times}
 use Rattle.nr_tables.proofs.Named.{left_counted, named_by}
 use Rattle.nr_tables.proofs.Order.{same_order}
 use Rattle.nr_tables.proofs.shared.remove_row.Goals as goal
@@ -19,3 +18,7 @@ returns-in-Some-clause-counted c =
     (sym (subst (λ R. Some c.in-Some.left ≡ lookup (is_at (R c.args.key)) c.args.rows.now.entries) same_order c.in-Some.ensures.value))
     (subst (λ R. c.remove.new.self.entries ≡ remove_entry (is_at (R c.args.key)) c.args.rows.now.entries) same_order c.remove.ensures.entries)
     c.leave.ensures.numbers
+
+pub returns-in-Some-clause-rows : goal.returns-in-Some-clause-rows
+returns-in-Some-clause-rows c =
+    subst (λ R. (q : keys.Key) → lookup (is_at (R q)) c.remove.new.self.entries ≡ cond (is_at (R c.args.key) q) None (lookup (is_at (R q)) c.args.rows.now.entries)) same_order c.remove.ensures.updates.0

@@ -1,4 +1,4 @@
-use Rattle.std.proofs.Common.{◌≡◌, ◌∙◌, ap, sym}
+use Rattle.std.proofs.Common.{◌∙◌, ap, sym}
 use Rattle.nr_tables.specs.Shared.{block_at, Pool}
 use Rattle.nr_tables.proofs.Stock.{block_there, stored_there}
 use Rattle.nr_tables.proofs.blocks.Blocks.attrs.Goals as goal

@@ -1,6 +1,6 @@
-use Rattle.std.proofs.Common.{◌≡◌, ◌+◌, ◌-◌, ◌∙◌, length, subst, arith}
+use Rattle.std.proofs.Common.{◌≡◌, ◌+◌, ◌-◌, length, subst, arith}
 use Rattle.std.specs.List.{IsDistinct}
-use Rattle.std.specs.Map.{keys_of, values_of}
+use Rattle.std.specs.Map.{keys_of}
 use Rattle.nr_tables.specs.Shared.{same_block, unnamed, Pool}
 use Rattle.nr_tables.proofs.Stock.{distinct_kept, numbers_count, unused_most}
 use Rattle.nr_tables.proofs.blocks.Blocks.in_use.Goals as goal

@@ -1,6 +1,6 @@
-use Rattle.std.proofs.Common.{◌≡◌, ◌∙◌, rules}
+use Rattle.std.proofs.Common.{◌∙◌, rules}
 use Rattle.indexmap.proofs.CallerLemmas.{filter-RetainsPairs}
-use Rattle.nr_tables.proofs.Stock.{in_use, new_names, new_names_all, new_names_apart, pool_used}
+use Rattle.nr_tables.proofs.Stock.{new_names, new_names_all, new_names_apart, pool_used}
 use Rattle.nr_tables.proofs.blocks.Blocks.renew.Goals as goal
 
 pub invariant_of-self : goal.invariant_of-self

@@ -1,4 +1,4 @@
-use Rattle.std.proofs.Common.{◌≡◌, ◌∙◌, ap}
+use Rattle.std.proofs.Common.{◌∙◌, ap}
 use Rattle.nr_tables.specs.Shared.{blocks_in, Shared}
 use Rattle.nr_tables.proofs.Named.{blocks_counted}
 use Rattle.nr_tables.proofs.shared.SharedRows.blocks.Goals as goal

@@ -1,4 +1,4 @@
-use Rattle.std.proofs.Common.{◌≡◌, ◌∙◌, ap}
+use Rattle.std.proofs.Common.{◌∙◌, ap}
 use Rattle.nr_tables.specs.Shared.{Shared}
 use Rattle.nr_tables.proofs.Named.{all_named, rows_stay}
 use Rattle.nr_tables.proofs.shared.SharedRows.place_of.Goals as goal

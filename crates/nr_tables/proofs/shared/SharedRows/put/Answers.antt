@@ -1,5 +1,5 @@
-use Rattle.std.proofs.Common.{◌≡◌, ◌∙◌, Some, cond, ap, sym, subst}
-use Rattle.std.specs.Prelude.{is_some, IfOk, OnOk}
+use Rattle.std.proofs.Common.{◌≡◌, ◌∙◌, Some, cond, ap, subst}
+use Rattle.std.specs.Prelude.{is_some, OnOk}
 use Rattle.std.specs.Ordering.{is_eq}
 use Rattle.std.proofs.lemmas.Result.{IfOk-weaker}
 use Rattle.nr_spec_routes.specs.Keys as keys

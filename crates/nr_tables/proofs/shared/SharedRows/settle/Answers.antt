@@ -1,6 +1,6 @@
-use Rattle.std.proofs.Common.{◌≡◌, ℕ, ◌∙◌, ap, sym, subst}
+use Rattle.std.proofs.Common.{◌∙◌, ap, sym, subst}
 use Rattle.std.specs.Prelude.{get_or}
-use Rattle.nr_tables.specs.Shared.{block_at, named_rows, AreCounted, Shared}
+use Rattle.nr_tables.specs.Shared.{named_rows, AreCounted, Shared}
 use Rattle.nr_tables.proofs.Named.{all_named, renamed_counted, renamed_rows}
 use Rattle.nr_tables.proofs.shared.SharedRows.settle.Goals as goal
 
