@@ -21,11 +21,9 @@ use Rattle.nr_exchange.specs.Views.{frame_item_of}
 use Rattle.nr_spec_deliveries.specs.Sending.{CommitsAt}
 use Rattle.nr_recorder.specs.Answering.{IsTip}
 use Rattle.nr_recorder.proofs.Booking.{fit_from, fit_to, last_more}
+use Rattle.nr_recorder.proofs.Linking.{taken}
 
 -- ---- items
-
-taken : (log : List LogEntry) (place : ℕ) (e : LogEntry) → slice_get log place ≡ Some e → take (place + 1) log ≡ take place log ++ e ∷ []
-taken log place e is = take_more log place e (slice_get_within log place e is) ∙ ap (λ (x : LogEntry). take place log ++ x ∷ []) (get_or_from_slice_get log place e e is)
 
 pub seen_more : (n : ℕ) (log : List LogEntry) (from place : ℕ) (items new : List Item) (item : Item) (e : LogEntry) → from ≤ place → slice_get log place ≡ Some e
     → map frame_item_of items ≡ map (seen_by n) (drop from (take place log)) → new ≡ items ++ item ∷ [] → frame_item_of item ≡ seen_by n e
@@ -82,10 +80,10 @@ tip_is asn n log k e value time leaf at is value_is time_is leaf_is =
     let within = slice_get_within log (k - 1) e is in
     let same : e ≡ at.entry = one e at.entry (sym is ∙ at.place) in
     record {
-      seq = sym (length-take-le k log (omega arith));
-      value = value_is;
-      time = time_is ∙ sym (ap (last_time 0) all ∙ last_more 0 (take (k - 1) log) e);
-      leaf = leaf_is ∙ sym (
+      number = sym (length-take-le k log (omega arith));
+      chained = value_is;
+      last = time_is ∙ sym (ap (last_time 0) all ∙ last_more 0 (take (k - 1) log) e);
+      committed = leaf_is ∙ sym (
         ap (λ (l : List LogEntry). unwrap_or (last_of (λ (x : LogEntry). leaf_in (content_of x)) l) 0) all
         ∙ unwrap_push (λ (x : LogEntry). leaf_in (content_of x)) (take (k - 1) log) e 0
         ∙ leaf_found n (content_of e) _ (ap (λ (x : LogEntry). is_commit_to n (content_of x)) same ∙ at.commits));

@@ -23,7 +23,7 @@ AnswersWhole bytes (Err Memory) answer = Unit {0}
 -- what the head of the log of an AS states: the number, the chain value and the time of its last entry; and the leaf of
 -- the last COMMIT, or 0
 pub record IsTip (asn : ℕ) (log : List LogEntry) (seq : ℕ) (value : List ℕ) (time leaf : ℕ) : Type 0 where
-  pub seq : seq ≡ length log
-  pub value : value ≡ value_after (log_chain asn) log
-  pub time : time ≡ last_time 0 log
-  pub leaf : leaf ≡ unwrap_or (last_of (λ e. leaf_in (content_of e)) log) 0
+  pub number : seq ≡ length log
+  pub chained : value ≡ value_after (log_chain asn) log
+  pub last : time ≡ last_time 0 log
+  pub committed : leaf ≡ unwrap_or (last_of (λ e. leaf_in (content_of e)) log) 0
