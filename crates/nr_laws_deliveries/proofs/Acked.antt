@@ -20,7 +20,8 @@ use Rattle.nr_laws_frames.proofs.FrameLaws.{frame_takes}
 use Rattle.nr_spec_steps.specs.Steps.{known}
 use Rattle.nr_spec_steps.specs.Telling.{IsFairAck}
 use Rattle.nr_spec_deliveries.specs.Sending.{Peer}
-use Rattle.nr_spec_deliveries.specs.Deliveries.{IsAcceptance, Kept, Sender, ack_by, ack_for, acknowledged_by, delivered, delivery, judged, kept_in, last_kept, nothing_kept, root_with, sender_from, sender_or, sends, sent_to, view_of}
+use Rattle.nr_laws_deliveries.specs.Laws.{IsAcceptance}
+use Rattle.nr_spec_deliveries.specs.Deliveries.{Kept, Sender, ack_by, ack_for, acknowledged_by, delivered, delivery, judged, kept_in, last_kept, nothing_kept, root_with, sender_from, sender_or, sends, sent_to, view_of}
 
 -- ---- by cases
 

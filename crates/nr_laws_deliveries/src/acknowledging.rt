@@ -10,7 +10,8 @@ ghost use Rattle.nr_spec_frames.specs.Verdicts.{Accepted, verdict};
 ghost use Rattle.nr_spec_steps.specs.Steps.{known};
 ghost use Rattle.nr_spec_steps.specs.Telling.{IsFairAck};
 ghost use Rattle.nr_spec_deliveries.specs.Sending.{Peer};
-ghost use Rattle.nr_spec_deliveries.specs.Deliveries.{IsAcceptance, acknowledged_by};
+ghost use Rattle.nr_spec_deliveries.specs.Deliveries.{acknowledged_by};
+ghost use Rattle.nr_laws_deliveries.specs.Laws.{IsAcceptance};
 
 /// What is acknowledged is an ACK of a neighbour of the own file, whose place isn't before the last one's nor behind
 /// the last message sent.

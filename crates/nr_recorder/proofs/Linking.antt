@@ -89,3 +89,7 @@ follows_more asn log values new walk moved place e d so_far value seq is walked 
       value = here ∙ ap (value_after (log_chain asn)) (sym all);
       seq = ap (λ (c : Chain). c.seq) walked ∙ ap (λ (k : ℕ). k + 1) seq;
     }
+
+-- the values reach as far as the log
+pub reaches : (asn : ℕ) (log now : List LogEntry) (values read : List Digest) (count : ℕ) → AreLinks asn log values → log ≡ now → read ≡ values → count ≤ length now → count ≤ length read
+reaches asn log now values read count are same read_is within = omega (arith, as_many asn log values are, ap length same, ap length read_is, within)

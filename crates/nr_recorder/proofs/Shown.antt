@@ -1,5 +1,6 @@
 -- The entries of a frame, and what its head states.
-use Rattle.std.proofs.Common.{◌≡◌, ℕ, zero, suc, ◌+◌, ◌-◌, ◌<◌, ◌≤◌, ◌^◌, Bool, true, false, List, [], ◌∷◌, ◌++◌, length, map, take, drop, Option, Some, None, refl, sym, ap, subst, ◌∙◌, cond, arith}
+use Rattle.std.proofs.Common.{◌≡◌, ℕ, zero, suc, ◌+◌, ◌-◌, ◌<◌, ◌≤◌, ◌^◌, Bool, true, false, List, [], ◌∷◌, ◌++◌, length, map, take, drop, Option, Some, None, Result, refl, sym, ap, subst, ◌∙◌, cond, arith}
+use Rattle.std.specs.Prelude.{slice_index_or}
 use Rattle.std.specs.List.{slice_get}
 use Rattle.std.specs.Option.{unwrap_or}
 use Rattle.std.proofs.lemmas.List.{drop-append-le, length-take-le, map-append, take_more}
@@ -13,12 +14,18 @@ use Rattle.nr_spec_entry.specs.ContentReading.{content_of}
 use Rattle.nr_spec_routes.specs.LookBack.{last_of, later_or}
 use Rattle.nr_spec_routes.proofs.Words.{unwrap_push}
 use Rattle.nr_spec_counts.specs.Tallies.{is_commit_to}
-use Rattle.nr_spec_steps.specs.Heads.{leaf_in, log_chain}
-use Rattle.nr_spec_frames.specs.Frames.{AreItemsFrom, FrameItem, Hidden, IsItem, Shown, item_time}
+use Rattle.nr_spec_steps.specs.Heads.{head_of, leaf_in, log_chain}
+use Rattle.nr_spec_frames.specs.Frames.{AreItemsFrom, Frame, FrameItem, Hidden, IsItem, Shown, item_time}
 use Rattle.nr_spec_frames.specs.Showing.{names, seen_by}
 use Rattle.nr_chain.specs.declared.item.Item.{Item}
 use Rattle.nr_exchange.specs.Views.{frame_item_of}
-use Rattle.nr_spec_deliveries.specs.Sending.{CommitsAt}
+use Rattle.nr_exchange.specs.Writing.{Writes, frame_made}
+use Rattle.nr_exchange.specs.declared.writing.FrameError.{FrameError}
+use Rattle.nr_spec_log.specs.Authenticator.{Authenticator}
+use Rattle.nr_spec_history.specs.KeyFiles.{Key}
+use Rattle.nr_spec_typing.specs.declared.text.Neighbour.{Neighbour}
+use Rattle.nr_spec_deliveries.specs.Sending.{CommitsAt, as_of, frame_for}
+use Rattle.nr_recorder.specs.Views.{peers_of}
 use Rattle.nr_recorder.specs.Answering.{IsTip}
 use Rattle.nr_recorder.proofs.Booking.{fit_from, fit_to, last_more}
 use Rattle.nr_recorder.proofs.Linking.{taken}
@@ -91,3 +98,30 @@ tip_is asn n log k e value time leaf at is value_is time_is leaf_is =
   where
     one : (x y : LogEntry) → Some x ≡ Some y → x ≡ y
     one x y same = cc
+
+pub committed_within : (n : ℕ) (log : List LogEntry) (k : ℕ) → CommitsAt n log k → k ≤ length log
+committed_within n log k at = omega (arith, at.start, slice_get_within log (k - 1) at.entry at.place)
+
+-- ---- frames
+
+pub as_is : (neighbours : List Neighbour) (n : ℕ) (z : Neighbour) → n < length neighbours → (slice_index_or neighbours n z).asn ≡ as_of (peers_of neighbours) n
+as_is [] n z less = absurd (omega arith)
+as_is (x ∷ xs) zero z less = refl
+as_is (x ∷ xs) (suc n) z less = as_is xs n z (omega arith)
+
+pub frame_is : (asn to_as n first : ℕ) (prev : List ℕ) (items : List FrameItem) (head : Authenticator) (key : Key) (whose : ℕ) (log : List LogEntry) (after k : ℕ) → asn ≡ key.asn → to_as ≡ whose
+    → first ≡ after + 1 → prev ≡ value_after (log_chain key.asn) (take after log) → items ≡ map (seen_by n) (drop after (take k log)) → head ≡ head_of key (take k log)
+    → frame_made asn to_as n first prev items head ≡ frame_for key whose n log after k
+unfolding frame_for
+frame_is asn to_as n first prev items head key whose log after k asn_is to_is first_is prev_is items_are head_is = λ i. record {
+  from_as = asn_is i;
+  to_as = to_is i;
+  number = n;
+  first = first_is i;
+  prev = prev_is i;
+  items = items_are i;
+  auth = head_is i;
+}
+
+pub written : {V : Type 0} (bytes : V → List ℕ) (result : Result V FrameError) (made given : Frame) → made ≡ given → Writes bytes result made → Writes bytes result given
+written bytes result made given same writes = subst (Writes bytes result) same writes

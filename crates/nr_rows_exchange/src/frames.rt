@@ -5,7 +5,7 @@ ghost use Rattle.nr_spec_log.specs.Answer.{IsEntry};
 ghost use Rattle.nr_chain.specs.Views.{entry_of};
 
 use crate::signing::put_auth;
-use nr_bytes::{Cursor, List, Memory, Place, put_bytes, put_u8, put_u16, put_u32, put_u64};
+use nr_bytes::{List, Memory, Place, put_bytes, put_u8, put_u16, put_u32, put_u64};
 use nr_chain::{Digest, Entry, Item, Walk, genesis, sha256};
 use nr_exchange::{Frame, Frames, seen_by, write_frame};
 use std::alloc::Global;
