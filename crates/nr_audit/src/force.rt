@@ -67,7 +67,6 @@ fn promised(entry: &Entry<'_>) -> Option<Digest>
 
 impl Force {
     /// Before the first entry: the digest is that of the promise in force there.
-    #[tactic(auto, using(crate::proofs::Seeing::seen_before))]
     pub fn over(in_force: Option<Digest>) -> Force
         ensures { (files : List Numbers) (base : Base) (period : SpecPeriod)
             → option_map digest_bytes in_force ≡ option_map digest_of base.tally.in_force

@@ -1,4 +1,4 @@
-use Rattle.std.proofs.Common.{◌≡◌, sym, subst}
+use Rattle.std.proofs.Common.{◌≡◌, ◌∙◌, sym, subst}
 use Rattle.std.specs.Prelude.{filter, map}
 use Rattle.nr_discipline.specs.Views.{numbers_of}
 use Rattle.nr_spec_history.specs.Conflicts.{conflicts_of}
@@ -6,9 +6,10 @@ use Rattle.nr_evidence.specs.Views.{period_of}
 use Rattle.nr_judging.specs.Views.{files_in}
 use Rattle.nr_audit.specs.declared.slots.Slots.{Slots}
 use Rattle.nr_audit.specs.Slots.{accuses}
+use Rattle.nr_audit.specs.Views.{wrong_of}
 use Rattle.nr_discipline.specs.Decoded.{base_view}
 use Rattle.nr_audit.proofs.Before.{stated}
-use Rattle.nr_audit.proofs.Walking.{checked_is, conflicts_are, counted_is, force_is, order_is}
+use Rattle.nr_audit.proofs.Walking.{checked_is, conflicts_are, counted_is, force_is, order_is, value_is, wrong_is}
 use Rattle.nr_audit.proofs.findings.found_in.Goals as goal
 
 pub returns-in_err-wrong-clause-counted : goal.returns-in_err-wrong-clause-counted
@@ -65,3 +66,16 @@ pub returns-clause-misfit : goal.returns-clause-misfit
 returns-clause-misfit g c = λ base before.
     c.misfit.ensures base (period_of c.args.period.now) c.args.answer.now.entries
     (force_is (map numbers_of c.args.files.now) (files_in c.args.promises.now) (g.J.Judge.truth c.args.judge.now) base (period_of c.args.period.now) c.args.answer.now c.args.auths.now _ _ c.in_ok-links.field-0 (c.in_ok-links.ensures.walks base before))
+
+pub returns-clause-value : goal.returns-clause-value
+returns-clause-value g c =
+    let base = base_view (c.args.state, c.args.counts) in
+    c.value.ensures
+    ∙ value_is (map numbers_of c.args.files.now) (files_in c.args.promises.now) (g.J.Judge.truth c.args.judge.now) base (period_of c.args.period.now) c.args.answer.now c.args.auths.now _ _ c.in_ok-links.field-0
+    (c.in_ok-links.ensures.walks base (stated c.args.state c.args.counts))
+
+pub returns-clause-wrong : goal.returns-clause-wrong
+returns-clause-wrong g c = λ base before.
+    (λ i. map wrong_of (c.in_ok-wrong.ensures.wrong i).items)
+    ∙ wrong_is (map numbers_of c.args.files.now) (files_in c.args.promises.now) (g.J.Judge.truth c.args.judge.now) base (period_of c.args.period.now) c.args.answer.now c.args.auths.now _ _ c.in_ok-links.field-0
+    (c.in_ok-links.ensures.walks base before)
