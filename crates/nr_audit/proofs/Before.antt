@@ -1,5 +1,5 @@
 -- Routes and counts as a base.
-use Rattle.std.proofs.Common.{◌≡◌, ℕ, ◌<◌, ◌^◌, List, [], refl, sym, subst, arith}
+use Rattle.std.proofs.Common.{◌≡◌, ℕ, ◌<◌, ◌^◌, List, [], refl, sym, subst}
 use Rattle.std.specs.List.Sorted.{IsStrictlySortedBy}
 use Rattle.nr_spec_routes.specs.Keys.{AreAscending, Row}
 use Rattle.nr_spec_counts.specs.Tallies.{nothing_yet}

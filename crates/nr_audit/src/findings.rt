@@ -82,7 +82,9 @@ fn found_in<J: Judge<L>, L: Ledger>(
         links,
         checked,
         force,
-    } = walk(alloc, period, files, promises, state, counts, answer, auths, judge, steps)?;
+    } = walk(
+        alloc, period, files, promises, state, counts, answer, auths, judge, steps,
+    )?;
     let (wrong, broken) = checked.close(alloc, period, promises, judge, steps)?;
     Ok(Findings {
         value: links.value(),

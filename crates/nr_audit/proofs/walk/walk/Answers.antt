@@ -1,4 +1,3 @@
-use Rattle.std.proofs.Common.{sym, subst, ◌<◌, ◌^◌, arith}
 use Rattle.std.specs.Prelude.{map}
 use Rattle.nr_discipline.specs.Decoded.{base_view}
 use Rattle.nr_discipline.specs.Views.{numbers_of}
