@@ -84,7 +84,15 @@ fn collect_takes_the_authenticators_of_one_network(rt: HostRuntime) {
     assert!(rt; collects(alloc, &mut files, 0, "authenticators 2\n"));
     assert!(rt; holds(&files, "t", &auths));
     assert!(rt; holds(&files, "f", &frames));
-    assert!(rt; gives(alloc, &collect_words("1"), &mut files, 0, "authenticators 0\n"));
+    assert!(rt;
+        gives(
+            alloc,
+            &collect_words("1"),
+            &mut files,
+            0,
+            "authenticators 0\n"
+        )
+    );
     assert!(rt; holds(&files, "t", b"NRT1"));
     assert!(rt; fails_at_the_sink(alloc, &collect_words("64500"), &mut files));
     assert!(rt; holds(&files, "t", &auths));

@@ -1,6 +1,6 @@
 //! The commands on frames between neighbours.
 #![tactic(auto)]
 
-mod collect;
+mod collecting;
 
-pub use collect::collect;
+pub use collecting::collect;

@@ -40,7 +40,7 @@ fn count_line(alloc: Global, count: usize) -> Result<String, AllocError>
 }
 
 // The ending of these authenticators.
-#[tactic(auto, using(std::proofs::lemmas::List::length-map), unfolding(nr_spec_program::specs::Collecting::collected_ending))]
+#[tactic(auto, using(crate::proofs::Collected::as_many), unfolding(nr_spec_program::specs::Collecting::collected_ending))]
 fn collected(alloc: Global, heads: &List<Auth<'_>>) -> Result<Ending, Memory>
     ensures { IfOk result (λ e. ending_of e ≡ collected_ending (map auth_of heads.now)) }
 {
