@@ -1,13 +1,13 @@
 -- Heads that are taken out of frames have spellings.
-use Rattle.std.proofs.Common.{◌≡◌, ℕ, zero, suc, ◌+◌, ◌<◌, List, [], ◌∷◌, ◌++◌, inl, inr, length, Option, None, Some, Result, Ok, Err, refl, sym, ap, subst, ◌∙◌, arith}
+use Rattle.std.proofs.Common.{◌≡◌, ℕ, zero, suc, ◌+◌, List, [], ◌∷◌, ◌++◌, inl, inr, length, Option, None, Some, Result, Ok, Err, refl, sym, subst, ◌∙◌, arith}
 use Rattle.std.specs.List.{AllByRecursion, filter_map, flat_map}
-use Rattle.std.specs.Prelude.{◌==◌, if◌then◌else◌}
+use Rattle.std.specs.Prelude.{◌==◌}
 use Rattle.std.proofs.lemmas.Bool.{cases_Bool}
 use Rattle.std.proofs.lemmas.List.Concat.{flat_map-cons}
 use Rattle.byteorder.specs.Endian.{big_bytes}
 use Rattle.nr_spec_wire.specs.Reading.{IsBytes}
 use Rattle.nr_spec_log.specs.Authenticator.{Authenticator, AreAuthenticators, IsAuthenticator, authenticator, authenticator_at, auths_file, auths_magic, auths_of}
-use Rattle.nr_spec_frames.specs.Frames.{Frame, IsFrame, frame_of, framed, frames_file, frames_magic, frames_of}
+use Rattle.nr_spec_frames.specs.Frames.{Frame, frame_of, framed, frames_magic, frames_of}
 use Rattle.nr_spec_collecting.specs.Collecting.{head_from, heads_from}
 use Rattle.nr_laws_frames.proofs.FileLaws.{file_takes}
 use Rattle.nr_laws_frames.proofs.FrameLaws.{frame_takes}
