@@ -19,9 +19,11 @@ mod keygen_tests;
 mod outside_tests;
 #[cfg(test)]
 mod record_tests;
+#[cfg(test)]
+mod rows;
 mod run;
 #[cfg(test)]
-mod tests;
+mod samples;
 #[cfg(test)]
 mod wrong_tests;
 

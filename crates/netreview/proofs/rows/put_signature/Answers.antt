@@ -1,7 +1,7 @@
 -- The tree that was built is the seed's, of height 1.
 use Rattle.std.proofs.Common.{◌≡◌, ℕ, sym, ap, ◌∙◌, arith}
 use Rattle.nr_spec_keys.specs.Trees.{KeyTree, tree_of}
-use Rattle.netreview.proofs.tests.put_signature.Goals as goal
+use Rattle.netreview.proofs.rows.put_signature.Goals as goal
 
 pub sign-requires-clause-of_seed : goal.sign-requires-clause-of_seed
 unfolding tree_of
