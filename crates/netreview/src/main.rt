@@ -8,6 +8,8 @@ mod broken_tests;
 #[cfg(test)]
 mod check_tests;
 #[cfg(test)]
+mod collect_tests;
+#[cfg(test)]
 mod evidence_tests;
 #[cfg(test)]
 mod fault_tests;

@@ -1,9 +1,12 @@
 pub mod Order
 pub mod Covered
-pub mod Blocks
+pub mod ReadAgain
 pub mod InPlaces
 pub mod Removed
 pub mod Short
 pub mod Gathering
 pub mod OthersOnce
 pub mod First
+pub mod Numbers
+pub mod Named
+pub mod Stock

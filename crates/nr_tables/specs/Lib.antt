@@ -2,3 +2,4 @@ pub mod Held
 pub mod Stored
 pub mod Views
 pub mod Others
+pub mod Shared

@@ -12,7 +12,6 @@ ghost use Rattle.nr_tables.specs.Views.{effect_view, IsShort};
 use crate::effect::Effect;
 use crate::gathered::Gathered;
 use crate::key::Key;
-use crate::route::Route;
 use crate::table::Table;
 use nr_attrs::Attrs;
 use nr_bgp::Prefixes;
@@ -23,8 +22,8 @@ use std::alloc::Global;
 
 #[tactic(auto, using(crate::proofs::Covered::covered_step))]
 fn withdraw(table: &mut Table, direction: Direction, neighbour: u16, prefixes: Prefixes<'_>)
-    ensures { (q : keys.Key) → route_in table.new q
-        ≡ (if covered direction neighbour prefixes.entry q then None else route_in table.old q) }
+    ensures { (q : keys.Key) → route_in table.new.rows q
+        ≡ (if covered direction neighbour prefixes.entry q then None else route_in table.old.rows q) }
 {
     for prefix in prefixes {
         let key = Key {
@@ -38,7 +37,6 @@ fn withdraw(table: &mut Table, direction: Direction, neighbour: u16, prefixes: P
 
 #[tactic(auto, using(crate::proofs::Covered::covered_step))]
 fn announce(
-    alloc: Global,
     table: &mut Table,
     direction: Direction,
     neighbour: u16,
@@ -46,17 +44,17 @@ fn announce(
     attrs: &Attrs<'_>,
 ) -> Result<(), Memory>
     requires { length attrs.now.block < 2 ^ 16 }
-    ensures { OnOk result ((q : keys.Key) → route_in table.new q
-        ≡ (if covered direction neighbour prefixes.entry q then Some attrs.now else route_in table.old q)) }
+    ensures { OnOk result ((q : keys.Key) → route_in table.new.rows q
+        ≡ (if covered direction neighbour prefixes.entry q then Some attrs.now else route_in table.old.rows q)) }
 {
+    let place = table.place_of(attrs)?;
     for prefix in prefixes {
         let key = Key {
             prefix,
             direction,
             neighbour,
         };
-        let route = Route::copy_of(alloc, attrs)?;
-        table.put(key, route)?;
+        table.put(key, place)?;
     }
     Ok(())
 }
@@ -79,8 +77,8 @@ fn named(
 // Empties a neighbour; the prefixes that had a row with it, in order and each once.
 fn empty(alloc: Global, table: &mut Table, neighbour: u16) -> Result<Vec<Prefix>, Memory>
     ensures rows { OnOk result ((q : keys.Key)
-        → route_in table.new q ≡ (if neighbour == q.neighbour then None else route_in table.old q)) }
-    ensures touched { IfOk result (λ list. list.items ≡ each_once (prefixes_in (rows_with neighbour table.old))) }
+        → route_in table.new.rows q ≡ (if neighbour == q.neighbour then None else route_in table.old.rows q)) }
+    ensures touched { IfOk result (λ list. list.items ≡ each_once (prefixes_in (rows_with neighbour table.old.rows))) }
 {
     let mut gathered = Gathered::new(alloc);
     table.empty(neighbour, &mut gathered)?;
@@ -93,8 +91,8 @@ fn empty(alloc: Global, table: &mut Table, neighbour: u16) -> Result<Vec<Prefix>
 pub fn change(alloc: Global, table: &mut Table, effect: &Effect<'_>) -> Result<Vec<Prefix>, Memory>
     requires { IsShort (effect_view effect.now) }
     ensures rows { OnOk result ((q : keys.Key)
-        → route_in table.new q ≡ unwrap_or (says (effect_view effect.now) q) (route_in table.old q)) }
-    ensures touched { IfOk result (λ list. list.items ≡ touched_by table.old (effect_view effect.now)) }
+        → route_in table.new.rows q ≡ unwrap_or (says (effect_view effect.now) q) (route_in table.old.rows q)) }
+    ensures touched { IfOk result (λ list. list.items ≡ touched_by table.old.rows (effect_view effect.now)) }
 {
     match effect {
         Effect::Keeps => Ok(Vec::new(alloc)),
@@ -111,7 +109,7 @@ pub fn change(alloc: Global, table: &mut Table, effect: &Effect<'_>) -> Result<V
             let attrs = update.attrs();
             let announced = update.announced();
             withdraw(table, *direction, *neighbour, update.withdrawn());
-            announce(alloc, table, *direction, *neighbour, announced, &attrs)?;
+            announce(table, *direction, *neighbour, announced, &attrs)?;
             Ok(list)
         }
     }

@@ -9,11 +9,11 @@ ghost use Rattle.nr_spec_routes.specs.Keys.{AreAscending, key_cmp, route_in, sta
 ghost use Rattle.nr_spec_routes.specs.Effects.{effect_of};
 ghost use Rattle.nr_spec_routes.specs.Rows.{rows_after};
 ghost use Rattle.nr_spec_routes.specs.Touched.{touched_by};
+ghost use Rattle.nr_tables.specs.Shared.{blocks_in};
 
 use crate::change::change;
 use crate::effect::read_effect;
 use crate::key::Key;
-use crate::route::Route;
 use crate::rows::Rows;
 use crate::standing::Standing;
 use crate::table::Table;
@@ -39,7 +39,7 @@ impl Model for State {
 
     ghost Value = { List Row };
 
-    ghost view = { λ s. s.table };
+    ghost view = { λ s. s.table.rows };
 }
 
 impl State {
@@ -65,7 +65,8 @@ impl State {
         let State { alloc, mut table } = self;
         let list = change(alloc, &mut table, &read_effect(entry))?;
         touched.set(list);
-        table.len();
+        table.settle()?;
+        table.shared().len();
         Ok(State { alloc, table })
     }
 
@@ -89,8 +90,10 @@ impl State {
             direction,
             neighbour,
         };
-        table.put(key, Route::copy_of(alloc, attrs)?)?;
-        table.len();
+        let place = table.place_of(attrs)?;
+        table.put(key, place)?;
+        table.settle()?;
+        table.shared().len();
         Ok(State { alloc, table })
     }
 
@@ -104,22 +107,29 @@ impl State {
             direction,
             neighbour,
         };
-        let route = self.table.find(key)?;
-        Some(route.attrs())
+        self.table.shared().find(key)
     }
 
     /// Whether some route of the prefix stands.
     pub fn stands(&self, prefix: &Prefix) -> bool
         ensures { result ≡ stands_in self.now prefix.now }
     {
-        self.table.stands(prefix)
+        self.table.shared().stands(prefix)
     }
 
     /// How many rows there are.
     pub fn len(&self) -> usize
         ensures { result ≡ length self.now }
     {
-        self.table.len()
+        self.table.shared().len()
+    }
+
+    /// How many different blocks of attributes the rows have. Blocks of the same bytes differ where one is of AS numbers
+    /// of two octets and the other of four.
+    pub fn blocks(&self) -> usize
+        ensures { result ≡ blocks_in self.now }
+    {
+        self.table.shared().blocks()
     }
 
     /// The rows, by prefix, by direction, received first, and by neighbour.
@@ -127,19 +137,13 @@ impl State {
         ensures all { result ≡ self.now }
         ensures order { AreAscending self.now }
     {
-        Rows {
-            rows: self.table.iter(),
-        }
+        self.table.shared().rows()
     }
 
     /// The prefixes of which some route stands, in order and each once.
-    #[tactic(auto, using(crate::proofs::OthersOnce::others_stand))]
     pub fn prefixes(&self) -> Standing<'_>
         ensures { result ≡ standing self.now }
     {
-        Standing {
-            rows: self.table.iter(),
-            last: None,
-        }
+        self.table.shared().prefixes()
     }
 }

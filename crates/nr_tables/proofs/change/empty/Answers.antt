@@ -8,6 +8,6 @@ use Rattle.nr_tables.proofs.Removed.{or_none}
 
 pub returns-clause-touched : goal.returns-clause-touched
 returns-clause-touched c =
-    c.in_ok-list.ensures.same ∙ only_once c.empty.new.gathered (prefixes_in (rows_with c.args.neighbour c.args.table.now)) c.list.ensures.order (λ (p : Cidr).
-    c.in_ok-empty.ensures.named p ∙ ap (λ l. is_named (prefixes_in (rows_with c.args.neighbour c.args.table.now)) p || is_named l p) c.new-gathered.ensures
-    ∙ or_none (is_named (prefixes_in (rows_with c.args.neighbour c.args.table.now)) p))
+    c.in_ok-list.ensures.same ∙ only_once c.empty.new.gathered (prefixes_in (rows_with c.args.neighbour c.args.table.now.rows)) c.list.ensures.order (λ (p : Cidr).
+    c.in_ok-empty.ensures.named p ∙ ap (λ l. is_named (prefixes_in (rows_with c.args.neighbour c.args.table.now.rows)) p || is_named l p) c.new-gathered.ensures
+    ∙ or_none (is_named (prefixes_in (rows_with c.args.neighbour c.args.table.now.rows)) p))

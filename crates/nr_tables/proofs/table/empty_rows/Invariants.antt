@@ -8,9 +8,9 @@ use Rattle.nr_tables.specs.Held.{AreHeld}
 
 abbrev pub invariant-loop-key : goal.invariant-loop-key
 invariant-loop-key l = record {
-  held : AreHeld l.rows.entries l.places;
-  rows : (q : keys.Key) → cond (l.neighbour == q.neighbour) None (route_in l.rows.entries q) ≡ cond (l.neighbour == q.neighbour) None (route_in l.fn.rows.entries q);
-  named : (p : Cidr) → (is_named (prefixes_in (rows_with l.neighbour l.rows.entries)) p || is_named l.gathered p) ≡ (is_named (prefixes_in (rows_with l.neighbour l.fn.rows.entries)) p || is_named l.fn.gathered p);
+  held : AreHeld l.rows.rows l.places;
+  rows : (q : keys.Key) → cond (l.neighbour == q.neighbour) None (route_in l.rows.rows q) ≡ cond (l.neighbour == q.neighbour) None (route_in l.fn.rows.rows q);
+  named : (p : Cidr) → (is_named (prefixes_in (rows_with l.neighbour l.rows.rows)) p || is_named l.gathered p) ≡ (is_named (prefixes_in (rows_with l.neighbour l.fn.rows.rows)) p || is_named l.fn.gathered p);
 }
 
 abbrev pub decreases-loop-key : goal.decreases-loop-key
