@@ -1,7 +1,7 @@
 -- What is acknowledged comes of a frame that was accepted.
-use Rattle.std.proofs.Common.{◌≡◌, ◌⊎◌, inl, inr, ℕ, zero, suc, ◌+◌, ◌-◌, ◌<◌, ◌≤◌, ◌==◌, Bool, true, false, cond, List, [], ◌∷◌, length, drop, filter, Option, Some, None, Result, Ok, Err, refl, sym, ap, subst, ◌∙◌, eqb-true, arith}
+use Rattle.std.proofs.Common.{◌≡◌, ℕ, suc, ◌+◌, ◌<◌, ◌≤◌, ◌==◌, Bool, true, false, cond, List, [], ◌∷◌, length, Option, Some, None, Result, Ok, Err, refl, sym, ap, subst, ◌∙◌, eqb-true, arith}
 use Rattle.std.proofs.lemmas.List.{length-drop}
-use Rattle.std.specs.List.{cons_option, count_by, filter_map}
+use Rattle.std.specs.List.{cons_option}
 use Rattle.std.specs.Option.{option_map, unwrap_or}
 use Rattle.std.proofs.lemmas.List.Recursion.{is_count_by}
 use Rattle.sha2.specs.Sha256.{sha256}
@@ -12,7 +12,7 @@ use Rattle.nr_spec_log.specs.Authenticator.{signature}
 use Rattle.nr_spec_entry.specs.Contents.{Ack, Checkpoint, Commit, Content, Promise, Recv, Send, State}
 use Rattle.nr_spec_entry.specs.ContentReading.{content_of}
 use Rattle.nr_spec_routes.specs.LookBack.{last_of, later_or}
-use Rattle.nr_spec_counts.specs.Tallies.{Numbers, ack_from, is_send_to, nothing_yet, tally_after}
+use Rattle.nr_spec_counts.specs.Tallies.{Numbers, ack_from, is_send_to, tally_after}
 use Rattle.nr_spec_frames.specs.Frames.{Frame, frame_of}
 use Rattle.nr_spec_frames.specs.Verdicts.{Accepted, Conflict, Disputed, Old, Unlinked, Unsigned, Verdict, verdict}
 use Rattle.nr_laws_frames.proofs.Accepting.{in_bounds}
@@ -47,7 +47,7 @@ addressed asn peers log bytes content f true read is acked =
     by_sender asn peers log bytes content f (sender_from 0 f.from_as f.number peers) read (eqb-true _ _ is) refl (sym (ap ack_for (so is)) ∙ acked)
   where
     so : (f.to_as == asn) ≡ true → delivered asn peers log (Ok f) ≡ judged log f (sender_from 0 f.from_as f.number peers)
-    so e = rw e in refl
+    so e = rw e refl
 addressed asn peers log bytes content f false read is acked = absurd cc
 
 by_frame : (asn : ℕ) (peers : List Peer) (log : List LogEntry) (bytes : List ℕ) (content : Content) (r : Result Frame ℕ) → frame_of bytes ≡ r
@@ -119,6 +119,7 @@ sender_below start asn number (p ∷ ps) s is = by_root (root_with asn number p)
   where
     here : (x y : Sender) → Some x ≡ Some y → x.neighbour ≡ y.neighbour
     here x y e = cc
+
     by_root : (root : Option (List ℕ)) → sender_or start asn root (sender_from (start + 1) asn number ps) ≡ Some s → s.neighbour < start + suc (length ps)
     by_root None found = let below = sender_below (start + 1) asn number ps s found in omega arith
     by_root (Some root) found =

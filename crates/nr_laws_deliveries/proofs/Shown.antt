@@ -13,5 +13,5 @@ shows key to_as n log after k less within = record { some = less; within = withi
 
 pub signed : (key : Key) (to_as n : ℕ) (log : List LogEntry) (after k : ℕ) → k ≤ length log
     → ((frame_for key to_as n log after k).auth.seq ≡ k) × ((frame_for key to_as n log after k).auth.hash ≡ value_after (log_chain key.asn) (take k log))
-unfolding frame_for, head_of
+unfolding frame_for head_of
 signed key to_as n log after k within = (length-take-le k log within, refl)
