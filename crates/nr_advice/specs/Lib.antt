@@ -1,0 +1,5 @@
+pub mod Advice
+pub mod Commands
+pub mod Places
+pub mod Plain
+pub mod Sentences
