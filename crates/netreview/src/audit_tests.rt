@@ -1,386 +1,282 @@
 //! Rows of `audit`.
 
-use crate::tests::{
-    ONES, ROOT, SECOND, SHORT, T0, USUAL, audit_words, audits, fails_at_the_sink, holds, malformed,
-    put_auth, smallest, three_files, usual_files,
+use crate::rows::Step::{
+    self, Add, Auth, Cut, Fail, Holds, Put, Row, Run, Set, Size, Turns, Unheard,
 };
-use nr_bytes::put_bytes;
-use nr_ports::MemFiles;
-use std::alloc::Global;
+use crate::rows::{TURN, Wrong, rows};
+use crate::samples::{AUDIT, NO_AUTHS, ONES, SECOND, SHORT, T0, USUAL};
 
-// Whether an audit of these files gives this status and this text.
-fn ends(
-    alloc: Global,
-    (promise, answer, auths): (&[u8], &[u8], &[u8]),
-    status: u8,
-    text: &str,
-) -> bool {
-    match three_files(alloc, promise, answer, auths) {
-        Some(mut files) => audits(alloc, USUAL, &mut files, status, text),
-        None => false,
-    }
-}
-
-// Whether an audit of this answer gives this status and this text.
-fn answers(alloc: Global, answer: &[u8], status: u8, text: &str) -> bool {
-    ends(alloc, (T0, answer, b"NRT1"), status, text)
-}
-
-// A period, and how an audit of the smallest answer over it ends.
-const PERIODS: [(&str, &str, u8, &str); 3] = [
-    ("0", "0", 0, "clean\n"),
-    ("0", "1", 7, "refused short 1 1\n"),
-    ("2", "1", 2, "usage\n"),
+const ROWS: &[Step] = &[
+    Row("the smallest log"),
+    Run(AUDIT, 0, "clean\n"),
+    Row("a period up to its last entry"),
+    Run(
+        "audit --root $root --promise p --answer a --auths t --from 0 --to 1",
+        7,
+        "refused short 1 1\n",
+    ),
+    Row("a period that ends before it begins"),
+    Run(
+        "audit --root $root --promise p --answer a --auths t --from 2 --to 1",
+        2,
+        "usage\n",
+    ),
+    Row("an empty answer"),
+    Put("a", b""),
+    Run(AUDIT, 3, "malformed answer 0\n"),
+    // Size and read of the promise file, the answer and the authenticators
+    Turns("each call fails", 1, 6),
+    Fail(TURN),
+    Run(AUDIT, 4, "read fault\n"),
+    Holds("t", NO_AUTHS),
+    Row("the sink fails"),
+    Unheard(AUDIT),
 ];
-
-fn wrong_period(alloc: Global, files: &mut MemFiles) -> Option<u8> {
-    for (from, to, status, text) in PERIODS {
-        if !audits(alloc, [ROOT, "p", "t", from, to], files, status, text) {
-            return Some(status);
-        }
-    }
-    None
-}
 
 #[test]
-fn answers_with_ample_memory(rt: HostRuntime) {
-    let mut files = usual_files(rt.alloc()).expect(&rt, "memory");
-    assert_eq!(rt; wrong_period(rt.alloc(), &mut files), None);
-    assert!(rt; answers(rt.alloc(), b"", 3, "malformed answer 0\n"));
+fn an_audit_reads_three_files(rt: HostRuntime) -> Result<(), Wrong> {
+    rows(rt.alloc(), USUAL, ROWS)
 }
 
-fn is_malformed(alloc: Global, answer: &[u8], place: u64) -> bool {
-    match malformed(alloc, "answer", place) {
-        Some(text) => answers(alloc, answer, 3, &text),
-        None => false,
-    }
-}
-
-// How many bytes of the smallest answer are left, and the place that is malformed.
-const CUTS: [(usize, u64); 4] = [(10_000, 176), (16_570, 16_560), (3, 0), (109, 102)];
-
-fn wrong_cut(alloc: Global, answer: &[u8]) -> Option<usize> {
-    for (len, place) in CUTS {
-        if !is_malformed(alloc, answer.get(..len).unwrap_or(&[]), place) {
-            return Some(len);
-        }
-    }
-    None
-}
-
-// A byte of the smallest answer, another value of it, and the place that is malformed then: of the first seq, the
-// previous value, the flag and the count; of the time of entry 2; of the head's AS, seq and time; of the magic; and of
-// the head's height, and a leaf past it.
-const CHANGES: [(usize, u8, u64); 11] = [
-    (15, 0, 8),
-    (16, 1, 16),
-    (48, 1, 48),
-    (52, 0, 49),
-    (60, 2, 102),
-    (122, 0, 119),
-    (130, 3, 123),
-    (138, 2, 131),
-    (3, 50, 0),
-    (175, 17, 175),
-    (174, 2, 175),
+const ANSWERS: &[Step] = &[
+    Row("its length"),
+    Size("a", 16_592),
+    Row("10,000 bytes of it"),
+    Cut("a", 10_000),
+    Run(AUDIT, 3, "malformed answer 176\n"),
+    Row("up to within the last digest of its path"),
+    Cut("a", 16_570),
+    Run(AUDIT, 3, "malformed answer 16560\n"),
+    Row("three bytes of it"),
+    Cut("a", 3),
+    Run(AUDIT, 3, "malformed answer 0\n"),
+    Row("up to within entry 2"),
+    Cut("a", 109),
+    Run(AUDIT, 3, "malformed answer 102\n"),
+    Row("another first seq"),
+    Set("a", 15, 0),
+    Run(AUDIT, 3, "malformed answer 8\n"),
+    Row("another previous value"),
+    Set("a", 16, 1),
+    Run(AUDIT, 3, "malformed answer 16\n"),
+    Row("another flag"),
+    Set("a", 48, 1),
+    Run(AUDIT, 3, "malformed answer 48\n"),
+    Row("another count"),
+    Set("a", 52, 0),
+    Run(AUDIT, 3, "malformed answer 49\n"),
+    Row("entry 2 is before entry 1"),
+    Set("a", 60, 2),
+    Run(AUDIT, 3, "malformed answer 102\n"),
+    Row("another AS of the head"),
+    Set("a", 122, 0),
+    Run(AUDIT, 3, "malformed answer 119\n"),
+    Row("another seq of the head"),
+    Set("a", 130, 3),
+    Run(AUDIT, 3, "malformed answer 123\n"),
+    Row("another time of the head"),
+    Set("a", 138, 2),
+    Run(AUDIT, 3, "malformed answer 131\n"),
+    Row("another magic"),
+    Set("a", 3, 50),
+    Run(AUDIT, 3, "malformed answer 0\n"),
+    Row("another height of the head"),
+    Set("a", 175, 17),
+    Run(AUDIT, 3, "malformed answer 175\n"),
+    Row("a leaf of the head past its height"),
+    Set("a", 174, 2),
+    Run(AUDIT, 3, "malformed answer 175\n"),
+    Row("a byte more"),
+    Add("a", b"\0"),
+    Run(AUDIT, 3, "malformed answer 16592\n"),
+    Row("an answer's fault goes before a fault at the reading of the authenticators"),
+    Put("a", b"NRA"),
+    Fail(5),
+    Run(AUDIT, 3, "malformed answer 0\n"),
+    // Another program computed the value of the other chain.
+    Row("entry 1 at time 1 makes another chain"),
+    Set("a", 60, 1),
+    Run(
+        AUDIT,
+        7,
+        "refused head 7bc86539f23b7de5009eb67b51d7faebe17048c1976906c8936419ad530a37fe 132dc96771ebc251885153eb4515fa0132579ea162f0a94dc45c165f4f8aff59\n",
+    ),
+    Row("the head's hash, which is signed"),
+    Set("a", 139, 0),
+    Run(AUDIT, 7, "refused head unsigned\n"),
+    Row("a byte of its secrets"),
+    Set("a", 176, 0),
+    Run(AUDIT, 7, "refused head unsigned\n"),
+    Row("a byte of its path"),
+    Set("a", 16_591, 0),
+    Run(AUDIT, 7, "refused head unsigned\n"),
 ];
-
-// Whether an audit of an answer with another byte ends so. The byte is put back.
-fn changed_ends(
-    alloc: Global,
-    answer: &mut [u8],
-    (at, value): (usize, u8),
-    status: u8,
-    text: &str,
-) -> bool {
-    if answer.len() <= at {
-        return false;
-    }
-    let before = answer[at];
-    answer[at] = value;
-    let ends = answers(alloc, answer, status, text);
-    answer[at] = before;
-    ends
-}
-
-fn is_changed(alloc: Global, answer: &mut [u8], change: (usize, u8), place: u64) -> bool {
-    match malformed(alloc, "answer", place) {
-        Some(text) => changed_ends(alloc, answer, change, 3, &text),
-        None => false,
-    }
-}
-
-fn wrong_change(alloc: Global, answer: &mut [u8]) -> Option<usize> {
-    for (at, value, place) in CHANGES {
-        if !is_changed(alloc, answer, (at, value), place) {
-            return Some(at);
-        }
-    }
-    None
-}
-
-// An answer's fault goes before a fault at the reading of the authenticators.
-fn goes_first(alloc: Global) -> bool {
-    match three_files(alloc, T0, b"NRA", b"NRT1") {
-        Some(mut files) => {
-            files.fail_call(5).is_ok()
-                && audits(alloc, USUAL, &mut files, 3, "malformed answer 0\n")
-        }
-        None => false,
-    }
-}
 
 #[test]
-fn names_the_first_malformed_field(rt: HostRuntime) {
-    let alloc = rt.alloc();
-    let mut answer = smallest(alloc).expect(&rt, "memory");
-    assert!(rt; answer.len() == 16_592);
-    assert_eq!(rt; wrong_cut(alloc, &answer), None);
-    assert_eq!(rt; wrong_change(alloc, &mut answer), None);
-    assert!(rt; put_bytes(&mut answer, b"\0").is_ok());
-    assert!(rt; is_malformed(alloc, &answer, 16_592));
-    assert!(rt; goes_first(alloc));
-}
-
-// How many bytes of a file of one authenticator are left, and the place that is malformed.
-const AUTHS_CUTS: [(usize, u64); 9] = [
-    (0, 0),
-    (7, 4),
-    (15, 8),
-    (23, 16),
-    (55, 24),
-    (59, 56),
-    (60, 60),
-    (16_444, 61),
-    (16_476, 16_445),
-];
-
-fn are_malformed(alloc: Global, answer: &[u8], auths: &[u8], place: u64) -> bool {
-    match malformed(alloc, "auths", place) {
-        Some(text) => ends(alloc, (T0, answer, auths), 3, &text),
-        None => false,
-    }
-}
-
-fn wrong_auths_cut(alloc: Global, answer: &[u8], auths: &[u8]) -> Option<usize> {
-    for (len, place) in AUTHS_CUTS {
-        if !are_malformed(alloc, answer, auths.get(..len).unwrap_or(&[]), place) {
-            return Some(len);
-        }
-    }
-    None
+fn an_answer_is_well_formed_and_signed(rt: HostRuntime) -> Result<(), Wrong> {
+    rows(rt.alloc(), USUAL, ANSWERS)
 }
 
 const THREES: &str = "0303030303030303030303030303030303030303030303030303030303030303";
 
-#[test]
-fn names_the_first_malformed_field_of_authenticators(rt: HostRuntime) {
-    let alloc = rt.alloc();
-    let answer = smallest(alloc).expect(&rt, "memory");
-    let mut auths = Vec::new(alloc);
-    assert!(rt; put_bytes(&mut auths, b"NRT1").is_ok());
-    assert!(rt; put_auth(alloc, &mut auths, 2, 1, THREES));
-    assert_eq!(rt; wrong_auths_cut(alloc, &answer, &auths), None);
-}
-
-// The head's hash, which is signed; a byte of its secrets and of its path.
-const UNSIGNED: [usize; 3] = [139, 176, 16_591];
-
-fn wrong_unsigned(alloc: Global, answer: &mut [u8]) -> Option<usize> {
-    for at in UNSIGNED {
-        if !changed_ends(alloc, answer, (at, 0), 7, "refused head unsigned\n") {
-            return Some(at);
-        }
-    }
-    None
-}
-
-// Entry 1 at time 1 makes another chain. Another program computed its value.
-const OTHER_CHAIN: &str =
-    "refused head 7bc86539f23b7de5009eb67b51d7faebe17048c1976906c8936419ad530a37fe 132dc96771ebc251885153eb4515fa0132579ea162f0a94dc45c165f4f8aff59\n";
-
-#[test]
-fn refuses_another_chain_and_an_unsigned_head(rt: HostRuntime) {
-    let alloc = rt.alloc();
-    let mut answer = smallest(alloc).expect(&rt, "memory");
-    assert!(rt; changed_ends(alloc, &mut answer, (60, 1), 7, OTHER_CHAIN));
-    assert_eq!(rt; wrong_unsigned(alloc, &mut answer), None);
-}
-
 const TWOS: &str = "0202020202020202020202020202020202020202020202020202020202020202";
 
-fn put_conflicts(alloc: Global, out: &mut Vec<u8>) -> bool {
-    put_bytes(out, b"NRT1").is_ok()
-        && put_auth(alloc, out, 5, 0, ONES)
-        && put_auth(alloc, out, 1, 0, TWOS)
-        && put_auth(alloc, out, 5, 0, ONES)
-}
+const AUTHS: &[Step] = &[
+    Row("up to within the magic"),
+    Cut("t", 0),
+    Run(AUDIT, 3, "malformed auths 0\n"),
+    Row("the AS"),
+    Auth("t", 2, 1, THREES),
+    Cut("t", 7),
+    Run(AUDIT, 3, "malformed auths 4\n"),
+    Row("the seq"),
+    Auth("t", 2, 1, THREES),
+    Cut("t", 15),
+    Run(AUDIT, 3, "malformed auths 8\n"),
+    Row("the time"),
+    Auth("t", 2, 1, THREES),
+    Cut("t", 23),
+    Run(AUDIT, 3, "malformed auths 16\n"),
+    Row("the value"),
+    Auth("t", 2, 1, THREES),
+    Cut("t", 55),
+    Run(AUDIT, 3, "malformed auths 24\n"),
+    Row("the leaf"),
+    Auth("t", 2, 1, THREES),
+    Cut("t", 59),
+    Run(AUDIT, 3, "malformed auths 56\n"),
+    Row("the height"),
+    Auth("t", 2, 1, THREES),
+    Cut("t", 60),
+    Run(AUDIT, 3, "malformed auths 60\n"),
+    Row("the secrets"),
+    Auth("t", 2, 1, THREES),
+    Cut("t", 16_444),
+    Run(AUDIT, 3, "malformed auths 61\n"),
+    Row("the path"),
+    Auth("t", 2, 1, THREES),
+    Cut("t", 16_476),
+    Run(AUDIT, 3, "malformed auths 16445\n"),
+    // Three conflicts, an authenticator of entry 2 as it stands, and one of which the first byte of its secrets is
+    // changed.
+    Row("signed conflicts in the file's order"),
+    Auth("t", 5, 0, ONES),
+    Auth("t", 1, 0, TWOS),
+    Auth("t", 5, 0, ONES),
+    Auth("t", 2, 1, SECOND),
+    Auth("t", 6, 0, ONES),
+    Set("t", 65_953, 0),
+    Run(
+        AUDIT,
+        1,
+        "conflict 5 0 0101010101010101010101010101010101010101010101010101010101010101\nconflict 1 0 0202020202020202020202020202020202020202020202020202020202020202\nconflict 5 0 0101010101010101010101010101010101010101010101010101010101010101\n",
+    ),
+];
 
-// Puts an authenticator whose first secret byte is changed.
-fn put_unsigned(alloc: Global, out: &mut Vec<u8>) -> bool {
-    let at = out.len().saturating_add(57);
-    put_auth(alloc, out, 6, 0, ONES)
-        && match out.get_mut(at) {
-            Some(byte) => {
-                *byte ^= 1;
-                true
-            }
-            None => false,
-        }
-}
-
-const CONFLICTS: &str =
-    "conflict 5 0 0101010101010101010101010101010101010101010101010101010101010101\nconflict 1 0 0202020202020202020202020202020202020202020202020202020202020202\nconflict 5 0 0101010101010101010101010101010101010101010101010101010101010101\n";
-
-// Three conflicts, an authenticator of entry 2 as it stands, and one that isn't signed.
 #[test]
-fn prints_signed_conflicts_in_file_order(rt: HostRuntime) {
-    let alloc = rt.alloc();
-    let answer = smallest(alloc).expect(&rt, "memory");
-    let mut auths = Vec::new(alloc);
-    assert!(rt; put_conflicts(alloc, &mut auths));
-    assert!(rt; put_auth(alloc, &mut auths, 2, 1, SECOND));
-    assert!(rt; put_unsigned(alloc, &mut auths));
-    assert!(rt; ends(alloc, (T0, &answer, &auths), 1, CONFLICTS));
+fn authenticators_are_well_formed_and_signed(rt: HostRuntime) -> Result<(), Wrong> {
+    rows(rt.alloc(), USUAL, AUTHS)
 }
 
-// A root, and how an audit under it ends.
-const ROOTS: [(&str, u8, &str); 4] = [
-    (
-        "1A2EBDEDD74930EF4334AAFBA6E1EEC56331B88EE789406E92066FA27BCF177E",
+const WORDS: &[Step] = &[
+    Row("a root in capitals"),
+    Run(
+        "audit --root 1A2EBDEDD74930EF4334AAFBA6E1EEC56331B88EE789406E92066FA27BCF177E --promise p --answer a --auths t --from 0 --to 0",
         0,
         "clean\n",
     ),
-    (SECOND, 7, "refused head unsigned\n"),
-    (
-        "1a2ebdedd74930ef4334aafba6e1eec56331b88ee789406e92066fa27bcf177",
+    Row("another root"),
+    Run(
+        "audit --root 7bc86539f23b7de5009eb67b51d7faebe17048c1976906c8936419ad530a37fe --promise p --answer a --auths t --from 0 --to 0",
+        7,
+        "refused head unsigned\n",
+    ),
+    Row("a root of 63 digits"),
+    Run(
+        "audit --root 1a2ebdedd74930ef4334aafba6e1eec56331b88ee789406e92066fa27bcf177 --promise p --answer a --auths t --from 0 --to 0",
         2,
         "usage\n",
     ),
-    ("", 2, "usage\n"),
-];
-
-fn wrong_root(alloc: Global, files: &mut MemFiles) -> Option<&'static str> {
-    for (root, status, text) in ROOTS {
-        if !audits(alloc, [root, "p", "t", "0", "0"], files, status, text) {
-            return Some(root);
-        }
-    }
-    None
-}
-
-#[test]
-fn takes_a_root_of_64_digits(rt: HostRuntime) {
-    let mut files = usual_files(rt.alloc()).expect(&rt, "memory");
-    assert_eq!(rt; wrong_root(rt.alloc(), &mut files), None);
-}
-
-// Names of a promise file and of authenticators, and how an audit of them ends.
-const NAMES: [(&str, &str, u8, &str); 5] = [
-    ("p", "u", 7, "refused nofile auths\n"),
-    ("q", "u", 7, "refused nofile promise\n"),
-    ("p", "a", 2, "usage\n"),
-    ("a", "t", 2, "usage\n"),
-    ("t", "t", 2, "usage\n"),
-];
-
-fn wrong_names(alloc: Global, files: &mut MemFiles) -> Option<(&'static str, &'static str)> {
-    for (promise, auths, status, text) in NAMES {
-        if !audits(alloc, [ROOT, promise, auths, "0", "0"], files, status, text) {
-            return Some((promise, auths));
-        }
-    }
-    None
-}
-
-#[test]
-fn takes_three_files_of_three_names(rt: HostRuntime) {
-    let mut files = usual_files(rt.alloc()).expect(&rt, "memory");
-    assert_eq!(rt; wrong_names(rt.alloc(), &mut files), None);
-}
-
-// Whether an audit ends so where this call on the files fails.
-fn fails(alloc: Global, call: u64) -> bool {
-    match usual_files(alloc) {
-        Some(mut files) => {
-            files.fail_call(call).is_ok()
-                && audits(alloc, USUAL, &mut files, 4, "read fault\n")
-                && holds(&files, "t", b"NRT1")
-        }
-        None => false,
-    }
-}
-
-// Size and read of the promise file, the answer and the authenticators
-fn wrong_call(alloc: Global) -> Option<u64> {
-    for call in 1..7u64 {
-        if !fails(alloc, call) {
-            return Some(call);
-        }
-    }
-    None
-}
-
-#[test]
-fn each_call_of_an_audit_fails_in_turn(rt: HostRuntime) {
-    let alloc = rt.alloc();
-    assert_eq!(rt; wrong_call(alloc), None);
-    let mut files = usual_files(alloc).expect(&rt, "memory");
-    assert!(rt; fails_at_the_sink(alloc, &audit_words(USUAL), &mut files));
-}
-
-const OTHER_PROMISE: &str =
-    "refused promise 1375025123b16bf96231b58c900e4c344b41888c97be7aab4f6188ed86365723 0f227a5188f3acc8f155bed784e12de0f62508d2cabcbac669cad45fdef796aa\n";
-
-// A promise file, and how an audit under it ends.
-const PROMISES: [(&[u8], u8, &str); 4] = [
-    (T0, 0, "clean\n"),
-    (
-        b"network 64501; commit 60;",
-        7,
-        "refused network 64500 64501\n",
+    Row("an empty root"),
+    Run(
+        "audit --root  --promise p --answer a --auths t --from 0 --to 0",
+        2,
+        "usage\n",
     ),
-    (b"network 64500; commit 61;", 7, OTHER_PROMISE),
-    (SHORT, 3, "malformed promise 14\n"),
-];
-
-// The same of an answer whose head isn't signed.
-const UNSIGNED_PROMISES: [(&[u8], u8, &str); 2] = [
-    (
-        b"network 64501; commit 60;",
+    Row("no authenticators"),
+    Run(
+        "audit --root $root --promise p --answer a --auths u --from 0 --to 0",
         7,
-        "refused network 64500 64501\n",
+        "refused nofile auths\n",
     ),
-    (T0, 7, "refused head unsigned\n"),
+    Row("no promise file and no authenticators"),
+    Run(
+        "audit --root $root --promise q --answer a --auths u --from 0 --to 0",
+        7,
+        "refused nofile promise\n",
+    ),
+    Row("the answer as authenticators"),
+    Run(
+        "audit --root $root --promise p --answer a --auths a --from 0 --to 0",
+        2,
+        "usage\n",
+    ),
+    Row("the answer as a promise file"),
+    Run(
+        "audit --root $root --promise a --answer a --auths t --from 0 --to 0",
+        2,
+        "usage\n",
+    ),
+    Row("the authenticators as a promise file"),
+    Run(
+        "audit --root $root --promise t --answer a --auths t --from 0 --to 0",
+        2,
+        "usage\n",
+    ),
 ];
-
-// And of one that is malformed: a promise file's fault goes before the answer's.
-const MALFORMED_PROMISES: [(&[u8], u8, &str); 2] = [
-    (SHORT, 3, "malformed promise 14\n"),
-    (T0, 3, "malformed answer 0\n"),
-];
-
-fn wrong_promise(
-    alloc: Global,
-    rows: &[(&[u8], u8, &'static str)],
-    answer: &[u8],
-) -> Option<&'static str> {
-    for (promise, status, text) in rows {
-        if !ends(alloc, (*promise, answer, b"NRT1"), *status, text) {
-            return Some(*text);
-        }
-    }
-    None
-}
 
 #[test]
-fn audits_under_the_promises_of_the_network(rt: HostRuntime) {
-    let alloc = rt.alloc();
-    let mut answer = smallest(alloc).expect(&rt, "memory");
-    assert_eq!(rt; wrong_promise(alloc, &PROMISES, &answer), None);
+fn takes_a_root_of_64_digits_and_three_names(rt: HostRuntime) -> Result<(), Wrong> {
+    rows(rt.alloc(), USUAL, WORDS)
+}
+
+const PROMISES: &[Step] = &[
+    Row("the one in force"),
+    Put("p", T0),
+    Run(AUDIT, 0, "clean\n"),
+    Row("of another network"),
+    Put("p", b"network 64501; commit 60;"),
+    Run(AUDIT, 7, "refused network 64500 64501\n"),
+    Row("another one"),
+    Put("p", b"network 64500; commit 61;"),
+    Run(
+        AUDIT,
+        7,
+        "refused promise 1375025123b16bf96231b58c900e4c344b41888c97be7aab4f6188ed86365723 0f227a5188f3acc8f155bed784e12de0f62508d2cabcbac669cad45fdef796aa\n",
+    ),
+    Row("a malformed one"),
+    Put("p", SHORT),
+    Run(AUDIT, 3, "malformed promise 14\n"),
     // With a changed byte of its path the head is not signed.
-    assert!(rt; answer.len() == 16_592);
-    answer[16_591] = 0;
-    assert_eq!(rt; wrong_promise(alloc, &UNSIGNED_PROMISES, &answer), None);
-    assert_eq!(rt; wrong_promise(alloc, &MALFORMED_PROMISES, b"NRA"), None);
+    Row("of another network, where the head is not signed"),
+    Set("a", 16_591, 0),
+    Put("p", b"network 64501; commit 60;"),
+    Run(AUDIT, 7, "refused network 64500 64501\n"),
+    Row("the one in force, where the head is not signed"),
+    Set("a", 16_591, 0),
+    Put("p", T0),
+    Run(AUDIT, 7, "refused head unsigned\n"),
+    Row("a promise file's fault goes before the answer's"),
+    Put("a", b"NRA"),
+    Put("p", SHORT),
+    Run(AUDIT, 3, "malformed promise 14\n"),
+    Row("the one in force, where the answer is malformed"),
+    Put("a", b"NRA"),
+    Put("p", T0),
+    Run(AUDIT, 3, "malformed answer 0\n"),
+];
+
+#[test]
+fn audits_under_the_promises_of_the_network(rt: HostRuntime) -> Result<(), Wrong> {
+    rows(rt.alloc(), USUAL, PROMISES)
 }

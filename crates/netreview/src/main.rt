@@ -8,6 +8,8 @@ mod broken_tests;
 #[cfg(test)]
 mod check_tests;
 #[cfg(test)]
+mod collect_tests;
+#[cfg(test)]
 mod evidence_tests;
 #[cfg(test)]
 mod fault_tests;
@@ -17,9 +19,11 @@ mod keygen_tests;
 mod outside_tests;
 #[cfg(test)]
 mod record_tests;
+#[cfg(test)]
+mod rows;
 mod run;
 #[cfg(test)]
-mod tests;
+mod samples;
 #[cfg(test)]
 mod wrong_tests;
 

@@ -2,9 +2,10 @@
 
 ghost use Rattle.std.specs.Prelude.{None, ◌-◌, ◌^◌};
 
+use crate::rows::{files_after, words_of};
 use crate::run::run;
-use crate::tests::{USUAL, audit_words, audits, usual_files, words_of};
-use nr_ports::{Failed, Files, MemFiles, Sink, WriteFault};
+use crate::samples::{AUDIT, USUAL};
+use nr_ports::{Failed, Files, MemFiles, MemSink, Sink, WriteFault};
 use std::alloc::Global;
 
 // A sink that takes one byte of each piece.
@@ -66,26 +67,23 @@ impl Files for TooLong {
 }
 
 // Whether an audit of the smallest answer says to the sink that it is clean.
-fn goes_on(alloc: Global, files: &mut MemFiles, out: &mut OneByte) -> bool {
-    match words_of(alloc, &audit_words(USUAL)) {
-        Ok(words) => {
-            run(alloc, &words, files, out) == 0 && out.bytes.as_slice() == b"clean\n".as_slice()
+fn goes_on(alloc: Global) -> bool {
+    let mut out = OneByte {
+        bytes: Vec::new(alloc),
+    };
+    match (words_of(alloc, AUDIT), files_after(alloc, USUAL)) {
+        (Ok(words), Some(mut files)) => {
+            run(alloc, &words, &mut files, &mut out) == 0
+                && out.bytes.as_slice() == b"clean\n".as_slice()
         }
-        Err(_) => false,
+        _ => false,
     }
 }
 
-#[test]
-fn goes_on_where_a_sink_takes_one_byte(rt: HostRuntime) {
-    let mut files = usual_files(rt.alloc()).expect(&rt, "memory");
-    let mut out = OneByte {
-        bytes: Vec::new(rt.alloc()),
-    };
-    assert!(rt; goes_on(rt.alloc(), &mut files, &mut out));
-}
-
 // A name and the size of its file, and how an audit ends.
-const SIZES: [(&str, u64, u8, &str); 4] = [
+type Size = (&'static str, u64, u8, &'static str);
+
+const SIZES: [Size; 4] = [
     ("p", 1_048_576, 4, "read fault\n"),
     ("p", 1_048_577, 7, "refused limit promise 1048577 1048576\n"),
     (
@@ -102,22 +100,38 @@ const SIZES: [(&str, u64, u8, &str); 4] = [
     ),
 ];
 
-fn is_too_long(alloc: Global, (name, size): (&'static str, u64), status: u8, text: &str) -> bool {
-    match usual_files(alloc) {
+fn ends(alloc: Global, files: &mut TooLong, status: u8, text: &str) -> bool {
+    let mut out = MemSink::new(alloc);
+    match words_of(alloc, AUDIT) {
+        Ok(words) => {
+            run(alloc, &words, files, &mut out) == status && out.bytes() == text.as_bytes()
+        }
+        Err(_) => false,
+    }
+}
+
+fn is_too_long(alloc: Global, (name, size, status, text): &Size) -> bool {
+    match files_after(alloc, USUAL) {
         Some(files) => {
-            let mut long = TooLong { files, name, size };
-            audits(alloc, USUAL, &mut long, status, text)
+            let mut long = TooLong {
+                files,
+                name: *name,
+                size: *size,
+            };
+            ends(alloc, &mut long, *status, text)
         }
         None => false,
     }
 }
 
 #[test]
-fn reads_nothing_of_a_file_past_its_limit(rt: HostRuntime) -> Result<(), &'static str> {
-    for (name, size, status, text) in SIZES {
-        if !is_too_long(rt.alloc(), (name, size), status, text) {
-            return Err(text);
-        }
+fn goes_on_where_a_sink_takes_one_byte(rt: HostRuntime) {
+    assert!(rt; goes_on(rt.alloc()));
+}
+
+#[test]
+fn reads_nothing_of_a_file_past_its_limit(rt: HostRuntime) {
+    for size in &SIZES {
+        assert!(rt; is_too_long(rt.alloc(), size));
     }
-    Ok(())
 }

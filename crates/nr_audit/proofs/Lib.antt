@@ -5,3 +5,4 @@ pub mod Numbered
 pub mod Rooms
 pub mod Walking
 pub mod Judging
+pub mod Before

@@ -12,14 +12,14 @@ use Rattle.nr_spec_routes.specs.LookBack.{later_or}
 use Rattle.nr_spec_history.specs.Conflicts.{Period}
 use Rattle.nr_spec_counts.specs.Tallies.{Numbers, Tally, promise_in, tally_after}
 use Rattle.nr_spec_counts.proofs.OneMore.{one_counted}
-use Rattle.nr_spec_report.specs.Wrong.{Base, is_within, nothing_before}
+use Rattle.nr_spec_report.specs.Wrong.{Base, is_within}
 use Rattle.nr_spec_outcome.specs.Outcome.{digest_list, digests_in_force, digests_within, force_before, is_of_no_file, misfit, promised}
 use Rattle.nr_audit.specs.Seen.{Seen}
 use Rattle.nr_audit.specs.Force.{digest_in, digest_of, misfit_seen, seen_after, seen_by, seen_more}
 
-pub seen_nothing : (files : List Numbers) (period : Period) → record { before = None; any = false; strange = None } ≡ seen_after files nothing_before period []
+pub seen_before : (files : List Numbers) (base : Base) (period : Period) (digest : Option (List ℕ)) → digest ≡ option_map digest_of base.tally.in_force → record { before = digest; any = false; strange = None } ≡ seen_after files base period []
 unfolding tally_after
-seen_nothing files period = refl
+seen_before files base period digest is = λ i. record { before = is i; any = false; strange = None }
 
 find_push : (p : List ℕ → Bool) (ds : List (List ℕ)) (d : List ℕ) → find p (ds ++ d ∷ []) ≡ later_or (find p ds) (cond (p d) (Some d) None)
 find_push p [] d = refl

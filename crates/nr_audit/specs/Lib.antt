@@ -6,3 +6,4 @@ pub mod Seen
 pub mod Force
 pub mod Walks
 pub mod Answers
+pub mod Before

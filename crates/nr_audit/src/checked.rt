@@ -3,12 +3,13 @@
 ghost use Rattle.std.specs.Prelude.{◌≡◌, ◌≤◌, ◌++◌, ◌∷◌, [], ◌<◌, ◌^◌, ◌+◌, ℕ, List, IfOk, OnOk, None, Option, length, map, slice_index, if◌then◌else◌, true};
 ghost use Rattle.nr_chain.specs.Views.{entry_of};
 ghost use Rattle.nr_spec_log.specs.Chain.{LogEntry};
+ghost use Rattle.nr_spec_routes.specs.Keys.{AreAscending};
 ghost use Rattle.nr_spec_counts.specs.Tallies.{Numbers, Tally};
 ghost use Rattle.nr_spec_history.specs.Conflicts.{Period as SpecPeriod};
 ghost use Rattle.nr_spec_counts.specs.Causes.{cause_of};
 ghost use Rattle.nr_spec_truth.specs.Truths.{Truth};
-ghost use Rattle.nr_spec_report.specs.Wrong.{Base, is_within, nothing_before, wrong_by};
-ghost use Rattle.nr_spec_promises.specs.Files.{PromiseFile, file_with, first_promised};
+ghost use Rattle.nr_spec_report.specs.Wrong.{Base, is_within, wrong_by};
+ghost use Rattle.nr_spec_promises.specs.Files.{PromiseFile, file_after, first_promised};
 ghost use Rattle.nr_spec_promises.specs.Counted.{most_asked};
 ghost use Rattle.nr_spec_promises.specs.Found as found;
 ghost use Rattle.nr_discipline.specs.Kept.{IsKeptOf};
@@ -17,6 +18,7 @@ ghost use Rattle.nr_evidence.specs.Views.{period_of};
 ghost use Rattle.nr_runs.specs.Views.{runs_in};
 ghost use Rattle.nr_judging.specs.Times.{NeverBack};
 ghost use Rattle.nr_judging.specs.Views.{AreFew, AreKnown, files_in};
+ghost use Rattle.nr_audit.specs.Before.{IsBefore};
 ghost use Rattle.nr_audit.specs.Checked.{Follows, asked_by, cause_within};
 ghost use Rattle.nr_audit.specs.Views.{wrong_of};
 
@@ -87,15 +89,18 @@ fn add(wrong: &mut Vec<WrongEntry>, seq: u64, cause: Option<Cause>) -> Result<()
 }
 
 impl Checked {
-    /// Before the first entry of a log: the number is that of the file of its first PROMISE.
-    pub fn new(alloc: Global, file: Option<u16>) -> Checked
-        ensures { (files : List Numbers) (promises : List PromiseFile) (truth : Truth) (period : SpecPeriod)
-            (opening : Option (List ℕ)) (first : ℕ) → file ≡ file_with promises opening
-            → Follows files promises truth nothing_before period opening first [] result }
+    /// Before the first entry: the routes and the counts that stand there, and the number of the file to which that
+    /// state belongs.
+    pub fn over(alloc: Global, state: State, counts: Counts, file: Option<u16>) -> Checked
+        requires { AreAscending state }
+        ensures { (files : List Numbers) (promises : List PromiseFile) (truth : Truth) (base : Base)
+            (period : SpecPeriod) (opening : Option (List ℕ)) (first : ℕ) → IsBefore base state counts
+            → file ≡ file_after promises base opening []
+            → Follows files promises truth base period opening first [] result }
     {
         Checked {
-            judging: Judging::new(alloc, file),
-            counts: Counts::new(),
+            judging: Judging::over(alloc, state, file),
+            counts,
             wrong: Vec::new(alloc),
         }
     }

@@ -6,11 +6,11 @@ ghost use Rattle.nr_spec_log.specs.Chain.{LogEntry};
 ghost use Rattle.nr_spec_entry.specs.ContentReading.{content_of};
 ghost use Rattle.nr_spec_counts.specs.Tallies.{Numbers, promise_in};
 ghost use Rattle.nr_spec_history.specs.Conflicts.{Period as SpecPeriod};
-ghost use Rattle.nr_spec_report.specs.Wrong.{Base, nothing_before};
+ghost use Rattle.nr_spec_report.specs.Wrong.{Base};
 ghost use Rattle.nr_spec_outcome.specs.Outcome.{digests_in_force, is_of_no_file, misfit};
 ghost use Rattle.nr_discipline.specs.Views.{numbers_of};
 ghost use Rattle.nr_evidence.specs.Views.{period_of};
-ghost use Rattle.nr_audit.specs.Force.{digest_in, misfit_seen, seen_after, seen_more};
+ghost use Rattle.nr_audit.specs.Force.{digest_in, digest_of, misfit_seen, seen_after, seen_more};
 
 use crate::checked::is_within;
 use nr_chain::{Digest, Entry};
@@ -66,13 +66,14 @@ fn promised(entry: &Entry<'_>) -> Option<Digest>
 }
 
 impl Force {
-    /// Before the first entry of a log.
-    #[tactic(auto, using(crate::proofs::Seeing::seen_nothing))]
-    pub fn new() -> Force
-        ensures { (files : List Numbers) (period : SpecPeriod) → result ≡ seen_after files nothing_before period [] }
+    /// Before the first entry: the digest is that of the promise in force there.
+    pub fn over(in_force: Option<Digest>) -> Force
+        ensures { (files : List Numbers) (base : Base) (period : SpecPeriod)
+            → option_map digest_bytes in_force ≡ option_map digest_of base.tally.in_force
+            → result ≡ seen_after files base period [] }
     {
         Force {
-            before: None,
+            before: in_force,
             any: false,
             strange: None,
         }

@@ -17,6 +17,6 @@ mod walk;
 
 pub use audited::Audited;
 pub use checked::WrongEntry;
-pub use judge::audit;
+pub use judge::{audit, audit_over};
 pub use refusal::Refusal;
 pub use report::Report;

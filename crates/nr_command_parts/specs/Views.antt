@@ -43,6 +43,7 @@ input_of input.Seed = command.SeedInput
 input_of input.Key = command.KeyInput
 input_of input.Log = command.LogInput
 input_of input.Evidence = command.EvidenceInput
+input_of input.Frames = command.FramesInput
 input_of (input.Mrt number) = command.MrtInput number
 
 abbrev pub fact_of : Fact → outcome.Fact

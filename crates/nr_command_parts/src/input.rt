@@ -17,6 +17,7 @@ pub enum Input {
     Key,
     Log,
     Evidence,
+    Frames,
     /// An MRT file, by its number, counted from 1.
     Mrt(usize),
 }
@@ -33,6 +34,7 @@ pub fn name_of(alloc: Global, input: Input) -> Result<String, AllocError>
         Input::Key => String::from_str(alloc, "key"),
         Input::Log => String::from_str(alloc, "log"),
         Input::Evidence => String::from_str(alloc, "evidence"),
+        Input::Frames => String::from_str(alloc, "frames"),
         Input::Mrt(number) => format!(in alloc; "mrt{number}"),
     }
 }
@@ -44,7 +46,7 @@ pub fn limit_of(input: Input) -> u64
     match input {
         Input::Promise | Input::Seed | Input::Key => 1_048_576,
         Input::Answer | Input::Log | Input::Mrt(_) => 2_147_483_647,
-        Input::Auths => 1_073_741_824,
+        Input::Auths | Input::Frames => 1_073_741_824,
         Input::Evidence => 3_221_225_472,
     }
 }

@@ -10,6 +10,7 @@ use crate::check::check_promise;
 use crate::keygen::keygen;
 use crate::verify::verify;
 use nr_command_parts::{Ending, Stop};
+use nr_frame_commands::collect;
 use nr_log_commands::{answer, record_events};
 use nr_ports::Files;
 use nr_requests::Request;
@@ -31,5 +32,6 @@ pub fn perform<F: Files>(
         Request::Record(record_request) => record_events(alloc, files, record_request),
         Request::Answer(answer_request) => answer(alloc, files, answer_request),
         Request::Verify(verify_request) => verify(alloc, files, verify_request),
+        Request::Collect(collect_request) => collect(alloc, files, collect_request),
     }
 }

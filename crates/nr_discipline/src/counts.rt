@@ -20,12 +20,12 @@ use std::marker::Model;
 /// COMMIT to it; how many COMMITs there are, the promise in force, and the time of the last entry.
 #[derive(Drop)]
 pub struct Counts {
-    sends: [u64; 256],
-    acked: [u64; 256],
-    oldest: [Option<u64>; 256],
-    commits: u64,
-    in_force: Option<FileNumbers>,
-    last_time: u64,
+    pub(crate) sends: [u64; 256],
+    pub(crate) acked: [u64; 256],
+    pub(crate) oldest: [Option<u64>; 256],
+    pub(crate) commits: u64,
+    pub(crate) in_force: Option<FileNumbers>,
+    pub(crate) last_time: u64,
 }
 
 impl Model for Counts {

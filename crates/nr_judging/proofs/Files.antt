@@ -60,3 +60,25 @@ rows_none = refl
 pub file_none : (files : List PromiseFile) (first : Option (List ℕ)) → file_after files nothing_before first [] ≡ file_with files first
 unfolding tally_after
 file_none files first = refl
+
+-- ---- before the first entry of a slice
+
+said : (f : Option Numbers) (first : Option (List ℕ)) (digest : List ℕ) → option_map digest_of f ≡ Some digest → force_or f first ≡ Some digest
+said None first digest h = absurd cc
+said (Some n) first digest h = h
+
+unsaid : (f : Option Numbers) (first : Option (List ℕ)) → option_map digest_of f ≡ None → force_or f first ≡ first
+unsaid None first h = refl
+unsaid (Some n) first h = absurd cc
+
+-- a promise is in force
+pub file_in_force : (files : List PromiseFile) (base : Base) (first : Option (List ℕ)) (digest : List ℕ) → option_map digest_of base.tally.in_force ≡ Some digest
+    → file_after files base first [] ≡ file_with files (Some digest)
+unfolding tally_after
+file_in_force files base first digest h = ap (file_with files) (said base.tally.in_force first digest h)
+
+-- none is
+pub file_opens : (files : List PromiseFile) (base : Base) (first : Option (List ℕ)) → option_map digest_of base.tally.in_force ≡ None
+    → file_after files base first [] ≡ file_with files first
+unfolding tally_after
+file_opens files base first h = ap (file_with files) (unsaid base.tally.in_force first h)

@@ -4,12 +4,12 @@ ghost use Rattle.std.specs.Prelude.{◌≡◌, ◌≤◌, ◌+◌, ◌*◌, ◌+
 ghost use Rattle.nr_chain.specs.Views.{entry_of};
 ghost use Rattle.nr_spec_log.specs.Chain.{LogEntry};
 ghost use Rattle.nr_spec_history.specs.Conflicts.{Period as SpecPeriod};
-ghost use Rattle.nr_spec_routes.specs.Keys.{Row};
+ghost use Rattle.nr_spec_routes.specs.Keys.{AreAscending, Row};
 ghost use Rattle.nr_spec_routes.specs.Rows.{rows_after};
 ghost use Rattle.nr_spec_report.specs.Wrong.{Base, nothing_before};
 ghost use Rattle.nr_spec_truth.specs.Truths.{Truth};
 ghost use Rattle.nr_spec_runs.specs.Runs.{Observation};
-ghost use Rattle.nr_spec_promises.specs.Files.{PromiseFile, file_with, first_promised};
+ghost use Rattle.nr_spec_promises.specs.Files.{PromiseFile, file_after, file_with, first_promised};
 ghost use Rattle.nr_spec_promises.specs.Moments.{moments};
 ghost use Rattle.nr_spec_promises.specs.Broken.{AreBroken};
 ghost use Rattle.nr_spec_promises.specs.Counted.{most_asked, most_promises, same_file};
@@ -124,6 +124,23 @@ impl Judging {
     {
         Judging {
             state: State::new(alloc),
+            touched: Touched::new(alloc),
+            runs: OpenRuns::new(alloc),
+            file,
+            begun: false,
+        }
+    }
+
+    /// Before the first entry of a slice: the routes that stand there, and the number of the file to which that state
+    /// belongs.
+    pub fn over(alloc: Global, state: State, file: Option<u16>) -> Judging
+        requires { AreAscending state }
+        ensures { (files : List PromiseFile) (truth : Truth) (period : SpecPeriod) (base : Base)
+            (first : Option (List ℕ)) → state ≡ base.rows → file ≡ file_after files base first []
+            → Follows files truth period base first [] result }
+    {
+        Judging {
+            state,
             touched: Touched::new(alloc),
             runs: OpenRuns::new(alloc),
             file,

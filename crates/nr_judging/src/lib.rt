@@ -13,4 +13,4 @@ mod walk;
 
 pub use file::File;
 pub use judging::Judging;
-pub use walk::first_file;
+pub use walk::{first_file, opening_file};

@@ -5,3 +5,4 @@ pub mod FileLaws
 pub mod Lists
 pub mod Least
 pub mod Accepting
+mod Collected

@@ -2,6 +2,8 @@
 
 ghost use Rattle.std.specs.Prelude.{◌≡◌, ℕ, List, Ok};
 ghost use Rattle.nr_spec_wire.specs.Reading.{IsBytes};
+ghost use Rattle.nr_spec_log.specs.Authenticator.{AreAuthenticators, auths_file, auths_of};
+ghost use Rattle.nr_spec_collecting.specs.Collecting.{heads_from};
 ghost use Rattle.nr_spec_frames.specs.Frames.{Frame, IsFrame, AreFramed, frame, frame_of, frames_file, frames_of};
 
 /// What is read as a frame is one, and the bytes are its spelling, all of them.
@@ -23,4 +25,12 @@ pub fn frames_file_found()
 /// The spelling of a file of frames is read as these frames' bytes.
 pub fn frames_file_again()
     ensures { (frames : List (List ℕ)) → AreFramed frames → frames_of (frames_file frames) ≡ Ok frames }
+{}
+
+/// The authenticators of the frames of a file have spellings, whatever AS they are from, and the file that is written of
+/// them is read as them.
+pub fn collected_heads_read_back()
+    ensures { (bytes : List ℕ) (frames : List (List ℕ)) (asn : ℕ) → IsBytes bytes → frames_of bytes ≡ Ok frames
+        → AreAuthenticators (heads_from asn frames)
+        × (auths_of (auths_file (heads_from asn frames)) ≡ Ok (heads_from asn frames)) }
 {}

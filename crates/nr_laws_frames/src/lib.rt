@@ -8,7 +8,9 @@ mod items;
 mod receipts;
 mod verdicts;
 
-pub use frames::{frame_again, frame_found, frames_file_again, frames_file_found};
+pub use frames::{
+    collected_heads_read_back, frame_again, frame_found, frames_file_again, frames_file_found,
+};
 pub use items::{
     item_reads_spelled, item_spelled_reads, item_spellings_are_prefix_free, items_read_spelled,
     items_spelled_read,

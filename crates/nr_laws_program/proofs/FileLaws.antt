@@ -14,15 +14,16 @@ use Rattle.nr_spec_plans.proofs.StepLaws.{done_by, done_only, each_as}
 use Rattle.nr_spec_plans.proofs.PlanLaws.{writes_nothing, counts_one, ends_so, taken_apart, saved, gives_outcome, spares_others}
 use Rattle.nr_spec_plans.proofs.SaveLaws.{save_leaves, reads_alone}
 use Rattle.nr_spec_history.specs.KeyFiles.{Key, key_file}
-use Rattle.nr_spec_commands.specs.Words.{named, AuditRequest, KeygenRequest, Request, Answer, Audit, Check, Keygen, Record, Verify, request_in}
+use Rattle.nr_spec_commands.specs.Words.{named, AuditRequest, CollectRequest, KeygenRequest, Request, Answer, Audit, Check, Collect, Keygen, Record, Verify, request_in}
 use Rattle.nr_spec_program.specs.Command.{judged, audit_plan, evidence_plan, long_evidence, Work, Ending, Refusal, refusal_ending, fault_ending, key_plan, keygen_plan, key_ending}
+use Rattle.nr_spec_program.specs.Collecting.{collect_plan, frames_plan}
 use Rattle.nr_spec_program.specs.Table.{plan_of, plan_in, plan_for}
 use Rattle.nr_spec_program.specs.Running.{RunsTo, Concludes, Answers}
 use Rattle.nr_spec_program.specs.Causes.{Answered, EndOf, EndsAs, EndsBy, IsReadOrSync, LeavesContents, LeavesFiles, NoneRose, NotMetLate, OnlyTheSinkFails, SavesKey, Touches, WroteNothing, ended, log_in, log_names, read_in, read_names, written_in, written_names}
 use Rattle.nr_laws_program.proofs.Names.{among_either, among_first, among_last}
 use Rattle.nr_laws_program.proofs.Phases.{IsWriting, phased_refusing, phased_then, phased_writing, IsLooking, IsPhased, SparesContents, WroteBy, looked_or_wrote, none_refuses, only_holds, only_unchanged, only_writes, phased_after, phased_each, phased_gives, spares_contents}
 use Rattle.nr_laws_program.proofs.LogKinds.{KindLoads}
-use Rattle.nr_laws_program.proofs.PlanKinds.{KindReads, audit_each, check_each, concluded_each, ends_low, neither, key_each, keygen_each, load_each, parts_each, parts_refuse, promise_each, verify_each, well_formed_each, refusal_status, request_ends}
+use Rattle.nr_laws_program.proofs.PlanKinds.{KindReads, audit_each, check_each, collect_each, concluded_each, ends_low, frames_each, neither, key_each, keygen_each, load_each, parts_each, parts_refuse, promise_each, verify_each, well_formed_each, refusal_status, request_ends}
 use Rattle.nr_laws_program.proofs.RecordPlans.{IsLate, answer_each, answer_phased, record_each, record_phased}
 use Rattle.nr_laws_program.proofs.StatusLaws.{ending_says, sink_alone, still_writes, answered_so, own_status}
 
@@ -52,6 +53,7 @@ touches_named (Record q) =
     (record { ask = inr (inr (among_last q.log q.files)); sync = inl refl; read = λ size. inr (inr (among_last q.log q.files)) })
     (record { write = λ at bytes. inl refl; sync = inl refl })
 touches_named (Verify q) = verify_each (TouchesOf (Verify q)) q (touches (Verify q) q.evidence (inl refl))
+touches_named (Collect q) = collect_each (TouchesOf (Collect q)) q (touches (Collect q) q.frames (inl refl)) (inl refl) (λ bytes. inl refl) (inl refl)
 touches_named (Answer q) =
     answer_each (TouchesOf (Answer q)) q (touches (Answer q) q.key (inl refl))
     (record { ask = inr (inl refl); sync = inl refl; read = λ size. inr (inl refl) })
@@ -119,6 +121,11 @@ key_phased : (kind : Action → Type 0) (late : Refusal → Type 0) (q : KeygenR
 unfolding plan_of keygen_plan save followed_by
 key_phased kind late q seed = phased_after kind late (key_plan q) _ (key_each kind q seed) (λ key. inr (tt, λ a. ((tt, λ b. (tt, λ c. tt)), λ b c. tt)))
 
+-- after the frames are there, no refusal comes
+collect_phased : (kind : Action → Type 0) (late : Refusal → Type 0) (q : CollectRequest) → KindReads kind q.frames → IsPhased kind late (plan_of (Collect q))
+unfolding plan_of collect_plan save followed_by
+collect_phased kind late q frames = phased_after kind late (frames_plan q) _ (frames_each kind q frames) (λ found. inr (tt, λ a. ((tt, λ b. (tt, λ c. tt)), λ b c. tt)))
+
 saved_phased : (kind : Action → Type 0) (late : TooLong → Type 0) (name : List ℕ) (e : EvidenceFile) → IsPhased kind late (save_evidence name e)
 unfolding save_evidence
 saved_phased kind late name e =
@@ -151,6 +158,7 @@ phased_request (Audit q) = audit_phased (LooksIn (Audit q)) IsLate q (looks [] q
 phased_request (Keygen q) = key_phased (LooksIn (Keygen q)) IsLate q (looks [] q.seed)
 phased_request (Check q) = phased_each (LooksIn (Check q)) IsLate (plan_of (Check q)) (check_each (LooksIn (Check q)) q (looks [] q.promise))
 phased_request (Verify q) = phased_each (LooksIn (Verify q)) IsLate (plan_of (Verify q)) (verify_each (LooksIn (Verify q)) q (looks [] q.evidence))
+phased_request (Collect q) = collect_phased (LooksIn (Collect q)) IsLate q (looks [] q.frames)
 phased_request (Record q) = record_phased (LooksIn (Record q)) q (looks (q.log ∷ []) q.promise) (looks (q.log ∷ []) q.key) (λ name is. looks (q.log ∷ []) name) (loads_log q.log)
 phased_request (Answer q) = answer_phased (LooksIn (Answer q)) q (looks (q.log ∷ []) q.key) (loads_log q.log)
 
@@ -241,7 +249,7 @@ told_still None new t is same = absurd cc
 told_still (Some s) None t is same = absurd cc
 told_still (Some s) (Some v) t is same = (v, refl, (let e : v.holds ≡ s.holds = cc in let f : s ≡ t = cc in e ∙ ap (λ (t : disk.Told). t.holds) f))
 
-told_after : (old new : Option disk.Told) (t : disk.Told) → old ≡ Some t → Unchanged old new → (u : disk.Told) × (new ≡ Some u) × (u.holds ≡ t.holds)
+pub told_after : (old new : Option disk.Told) (t : disk.Told) → old ≡ Some t → Unchanged old new → (u : disk.Told) × (new ≡ Some u) × (u.holds ≡ t.holds)
 told_after old new t is u = told_still old new t is u.holds
 
 -- what is left by bytes that were written in whole, and of which an ending came
@@ -394,6 +402,8 @@ refused_leave (Some (Audit q)) old new result e unsynced runs c none =
     reads name = record { ask = tt; read = λ size. tt }
 refused_leave (Some (Keygen q)) old new result e unsynced runs c none =
     leaves_by old new (looked_alone (Keygen q) IsRead (λ refusal. ⊥) old new result e (λ refusal is late. late) (key_phased IsRead (λ refusal. ⊥) q (record { ask = tt; read = λ size. tt })) runs c none)
+refused_leave (Some (Collect q)) old new result e unsynced runs c none =
+    leaves_by old new (looked_alone (Collect q) IsRead (λ refusal. ⊥) old new result e (λ refusal is late. late) (collect_phased IsRead (λ refusal. ⊥) q (record { ask = tt; read = λ size. tt })) runs c none)
 refused_leave (Some (Check q)) old new result e unsynced runs c none = reading_leaves (Some (Check q)) old new result refl refl runs
 refused_leave (Some (Verify q)) old new result e unsynced runs c none = reading_leaves (Some (Verify q)) old new result refl refl runs
 refused_leave (Some (Record q)) old new result e unsynced runs c none = absurd cc
@@ -434,6 +444,7 @@ contents_leave (Some (Audit q)) old new result e early runs c none = contents_le
 contents_leave (Some (Check q)) old new result e early runs c none = reading_left (Some (Check q)) old new result refl refl runs
 contents_leave (Some (Verify q)) old new result e early runs c none = reading_left (Some (Verify q)) old new result refl refl runs
 contents_leave (Some (Keygen q)) old new result e early runs c none = contents_left [] old new (looked_alone (Keygen q) (LooksIn (Keygen q)) IsLate old new result e (not_late result early) (phased_request (Keygen q)) runs c none)
+contents_leave (Some (Collect q)) old new result e early runs c none = contents_left [] old new (looked_alone (Collect q) (LooksIn (Collect q)) IsLate old new result e (not_late result early) (phased_request (Collect q)) runs c none)
 contents_leave (Some (Record q)) old new result e early runs c none = contents_left (q.log ∷ []) old new (looked_alone (Record q) (LooksIn (Record q)) IsLate old new result e (not_late result early) (phased_request (Record q)) runs c none)
 contents_leave (Some (Answer q)) old new result e early runs c none = contents_left (q.log ∷ []) old new (looked_alone (Answer q) (LooksIn (Answer q)) IsLate old new result e (not_late result early) (phased_request (Answer q)) runs c none)
 

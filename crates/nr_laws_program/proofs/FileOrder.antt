@@ -14,15 +14,17 @@ use Rattle.nr_spec_verify.specs.Verified as evidence
 use Rattle.nr_spec_verify.specs.Verified.{verified}
 use Rattle.nr_spec_outcome.specs.Report.{Report}
 use Rattle.nr_spec_outcome.specs.Outcome.{Fact}
-use Rattle.nr_spec_commands.specs.Words.{AuditRequest, CheckRequest, KeygenRequest, VerifyRequest, Audit, Check, Keygen, Verify}
+use Rattle.nr_spec_commands.specs.Words.{AuditRequest, CheckRequest, CollectRequest, KeygenRequest, VerifyRequest, Audit, Check, Collect, Keygen, Verify}
 use Rattle.nr_spec_texts.specs.Promises.{PromiseFile, promise_of}
-use Rattle.nr_spec_program.specs.Command.{Input, PromiseInput, AnswerInput, AuthsInput, SeedInput, EvidenceInput, Work, Ending, Refusal, NoFile, Limit, Malformed, load, sized, well_formed, LongEvidence, evidence_plan, long_evidence, concluded, judged, promise_plan, check_plan, audit_plan, key_plan, keygen_plan, input_limit}
+use Rattle.nr_spec_program.specs.Command.{Input, PromiseInput, AnswerInput, AuthsInput, SeedInput, EvidenceInput, FramesInput, Work, Ending, Refusal, NoFile, Limit, Malformed, load, sized, well_formed, LongEvidence, evidence_plan, long_evidence, concluded, judged, promise_plan, check_plan, audit_plan, key_plan, keygen_plan, input_limit}
 use Rattle.nr_spec_program.specs.Verifying.{checked, verified_ending, verify_plan}
+use Rattle.nr_spec_frames.specs.Frames.{frames_of}
+use Rattle.nr_spec_program.specs.Collecting.{collect_plan, frames_plan}
 use Rattle.nr_spec_program.specs.Table.{plan_of}
 use Rattle.nr_spec_program.specs.Command as command
 use Rattle.nr_spec_program.specs.Causes.{Permits}
 use Rattle.nr_laws_program.proofs.Phases.{allows_refusing, none_allows, none_refuses, refuses_refusing}
-use Rattle.nr_laws_program.proofs.PlanKinds.{after_report, checked_each, concluded_each, evidence_each, key_each, load_each, parts_refuse, promise_each, sized_each, well_formed_each}
+use Rattle.nr_laws_program.proofs.PlanKinds.{after_report, checked_each, concluded_each, evidence_each, frames_each, key_each, load_each, parts_refuse, promise_each, sized_each, well_formed_each}
 
 -- ---- the refusals of each part of a plan
 
@@ -233,3 +235,19 @@ pub keygen_allows : (q : KeygenRequest) → Allows (Permits (Keygen q)) (plan_of
 unfolding plan_of keygen_plan save followed_by
 keygen_allows q =
     allows_followed (Permits (Keygen q)) (key_plan q) _ (key_allows q) (key_each _ q (record { ask = λ key. λ a b c. tt; read = λ size. λ key. λ a b c. tt })) (λ key. λ a. (λ b c. tt, λ b. (λ c. tt, λ c. (tt, tt))))
+
+frames_allows : (q : CollectRequest) → Allows (Permits (Collect q)) (frames_plan q)
+unfolding frames_plan
+frames_allows q =
+    allows_followed (Permits (Collect q)) _ _ (load_allows (Permits (Collect q)) FramesInput q.frames (inl refl) (λ found. inl refl))
+    (load_each _ FramesInput q.frames (record {
+      ask = λ bytes. formed_refuses (λ r. Permits (Collect q) r (Ask q.frames)) FramesInput (frames_of bytes) (λ place. inl refl);
+      read = λ size bytes. formed_refuses (λ r. Permits (Collect q) r (Read q.frames size)) FramesInput (frames_of bytes) (λ place. inl refl);
+    }))
+    (λ bytes. formed_allows (Permits (Collect q)) FramesInput (frames_of bytes))
+
+-- nothing refuses after the frames are there
+pub collect_allows : (q : CollectRequest) → Allows (Permits (Collect q)) (plan_of (Collect q))
+unfolding plan_of collect_plan save followed_by
+collect_allows q =
+    allows_followed (Permits (Collect q)) (frames_plan q) _ (frames_allows q) (frames_each _ q (record { ask = λ frames. λ a b c. tt; read = λ size. λ frames. λ a b c. tt })) (λ frames. λ a. (λ b c. tt, λ b. (λ c. tt, λ c. (tt, tt))))

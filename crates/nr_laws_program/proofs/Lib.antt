@@ -11,3 +11,4 @@ pub mod Parts
 pub mod Outcomes
 pub mod ReplyLaws
 pub mod AuditLaws
+pub mod CollectLaws

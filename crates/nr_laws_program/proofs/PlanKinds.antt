@@ -22,10 +22,12 @@ use Rattle.nr_spec_outcome.specs.Outcome.{Fact, outcome, promise_files}
 use Rattle.nr_spec_truth.specs.Truths.{meant}
 use Rattle.nr_spec_texts.specs.Promises as program
 use Rattle.nr_spec_texts.specs.Promises.{promise_of, audited_by}
-use Rattle.nr_spec_commands.specs.Words.{AuditRequest, CheckRequest, KeygenRequest, VerifyRequest, Request, Answer, Audit, Check, Keygen, Record, Verify}
+use Rattle.nr_spec_commands.specs.Words.{AuditRequest, CheckRequest, CollectRequest, KeygenRequest, VerifyRequest, Request, Answer, Audit, Check, Collect, Keygen, Record, Verify}
 use Rattle.nr_spec_program.specs.Command.{Input, Work, Ending, Refusal, NoFile, Limit, Malformed, Prevented, refusal_ending, load, sized, well_formed, LongEvidence, audit_ending, evidence_of_report, evidence_plan, long_evidence, concluded, judged, promise_plan, check_plan, audit_plan, key_plan, keygen_plan, input_limit, promise_ending, report_ending, report_status, key_ending}
 use Rattle.nr_spec_program.specs.Recording.{answer_plan, answered_ending, record_plan, recorded_ending}
 use Rattle.nr_spec_program.specs.Verifying.{checked, verified_ending, verify_plan}
+use Rattle.nr_spec_frames.specs.Frames.{frames_of}
+use Rattle.nr_spec_program.specs.Collecting.{collect_plan, collected_ending, frames_plan}
 use Rattle.nr_spec_program.specs.Table.{plan_of}
 use Rattle.nr_spec_program.specs.Causes.{EndOf}
 use Rattle.nr_spec_program.specs.Command as command
@@ -123,6 +125,14 @@ pub keygen_each : (kind : Action → Type 0) (q : KeygenRequest) → KindReads k
 unfolding plan_of keygen_plan save followed_by
 keygen_each kind q is cut write sync = each_followed kind (key_plan q) _ (key_each kind q is) (λ key. (cut, λ a. (write _, λ b. (sync, λ c. tt))))
 
+pub frames_each : (kind : Action → Type 0) (q : CollectRequest) → KindReads kind q.frames → Each kind (frames_plan q)
+unfolding frames_plan
+frames_each kind q is = each_followed kind _ _ (load_each kind _ q.frames is) (λ bytes. well_formed_each kind _ (frames_of bytes))
+
+pub collect_each : (kind : Action → Type 0) (q : CollectRequest) → KindReads kind q.frames → kind (Cut q.out 0) → ((bytes : List ℕ) → kind (Write q.out 0 bytes)) → kind (Sync q.out) → Each kind (plan_of (Collect q))
+unfolding plan_of collect_plan save followed_by
+collect_each kind q is cut write sync = each_followed kind (frames_plan q) _ (frames_each kind q is) (λ frames. (cut, λ a. (write _, λ b. (sync, λ c. tt))))
+
 -- ---- endings
 
 -- what an audit does after its report
@@ -146,7 +156,7 @@ verify_ends q bytes (Err (evidence.Malformed place)) is = tt
 verify_ends q bytes (Err (evidence.Refused fact)) is = tt
 
 pub request_ends : (request : Request) → Ends (EndOf request) (plan_of request)
-unfolding plan_of check_plan audit_plan keygen_plan record_plan answer_plan verify_plan
+unfolding plan_of check_plan audit_plan keygen_plan record_plan answer_plan verify_plan collect_plan
 request_ends (Check q) = ends_followed (EndOf (Check q)) _ _ (λ promise. ends_followed (EndOf (Check q)) want _ (λ room. (promise, refl)))
 request_ends (Audit q) =
     ends_followed (EndOf (Audit q)) _ _ (λ promise. ends_followed (EndOf (Audit q)) _ _ (λ answer_bytes. ends_followed (EndOf (Audit q)) _ _ (λ answer. ends_followed (EndOf (Audit q)) _ _ (λ auths_bytes. ends_followed (EndOf (Audit q)) _ _ (λ auths. audit_ends q answer_bytes promise answer auths _ refl)))))
@@ -160,6 +170,7 @@ request_ends (Answer q) =
     ends_followed (EndOf (Answer q)) _ _ (λ network. ends_followed (EndOf (Answer q)) want _ (λ tree. ends_followed (EndOf (Answer q)) _ _ (λ root. ends_followed (EndOf (Answer q)) want _ (λ ready.
     ends_followed (EndOf (Answer q)) _ _ (λ answer. ends_followed (EndOf (Answer q)) _ _ (λ bytes. ends_followed (EndOf (Answer q)) want _ (λ room. ends_followed (EndOf (Answer q)) _ _ (λ saved. (answer, refl)))))))))))))
 request_ends (Verify q) = ends_followed (EndOf (Verify q)) _ _ (λ bytes. verify_ends q bytes _ refl)
+request_ends (Collect q) = ends_followed (EndOf (Collect q)) _ _ (λ frames. ends_followed (EndOf (Collect q)) want _ (λ room. ends_followed (EndOf (Collect q)) _ _ (λ saved. (frames, refl))))
 
 -- the statuses of endings
 claims_low : (claims : List Claim) → report_status claims ≤ 1
@@ -175,13 +186,14 @@ unfolding verified_ending
 verified_low claims = elim (cases_Bool (list_any not claims)) [ inl by ↦ rw by (omega arith) | inr by ↦ rw by (omega arith) ]
 
 pub ends_low : (request : Request) (e : Ending) → EndOf request e → e.status ≤ 1
-unfolding promise_ending key_ending recorded_ending answered_ending
+unfolding promise_ending key_ending recorded_ending answered_ending collected_ending
 ends_low (Audit q) e (promise, answer, auths, report, is, ends) = rw ends (report_low (promise_files (audited_by promise ∷ [])) report)
 ends_low (Keygen q) e (key, is) = rw is (omega arith)
 ends_low (Check q) e (promise, is) = rw is (omega arith)
 ends_low (Record q) e (before, after, (skips, is)) = rw is (omega arith)
 ends_low (Answer q) e (answer, is) = rw is (omega arith)
 ends_low (Verify q) e (bytes, claims, is, ends) = rw ends (verified_low claims)
+ends_low (Collect q) e (frames, is) = rw is (omega arith)
 
 pub refusal_status : (refusal : Refusal) → ((refusal_ending refusal).status ≡ 3) ⊎ ((refusal_ending refusal).status ≡ 7)
 unfolding refusal_ending

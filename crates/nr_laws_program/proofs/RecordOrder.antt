@@ -21,7 +21,7 @@ use Rattle.nr_spec_steps.specs.Turns.{turn}
 use Rattle.nr_spec_steps.specs.Heads.{whole_answer}
 use Rattle.nr_spec_recording.specs.Records.{records_of}
 use Rattle.nr_spec_recording.specs.Events.{records_in_order, skipped, too_long}
-use Rattle.nr_spec_commands.specs.Words.{AnswerRequest, RecordRequest, Request, Answer, Audit, Check, Keygen, Record, Verify, request_in}
+use Rattle.nr_spec_commands.specs.Words.{AnswerRequest, RecordRequest, Request, Answer, Audit, Check, Collect, Keygen, Record, Verify, request_in}
 use Rattle.nr_spec_program.specs.Keys.{key_of}
 use Rattle.nr_spec_texts.specs.Promises.{PromiseFile}
 use Rattle.nr_spec_program.specs.Command.{Work, Ending, Refusal, LogFact, KeySpent, LongAnswer, LongLog, NoFile, Limit, Malformed, Prevented, Unsealed, KeyInput, LogInput, MrtInput, AnswerInput, input_limit, well_formed, promise_plan}
@@ -34,7 +34,7 @@ use Rattle.nr_laws_program.proofs.Phases.{allows_refusing, refuses_refusing}
 use Rattle.nr_laws_program.proofs.LogKinds.{KindAppends, append_log_allows, birth_log_allows, birth_log_refuses, load_log_allows, load_log_refuses}
 use Rattle.nr_laws_program.proofs.PlanKinds.{load_each, promise_each, well_formed_each}
 use Rattle.nr_laws_program.proofs.RecordPlans.{OfTurns, batch_each, bytes_each, born_each, key_file_each, log_each, mrt_each, present_each, save_each, sealed_each, turned_each, turns_each, turns_refuses, unless_each}
-use Rattle.nr_laws_program.proofs.FileOrder.{audit_allows, check_allows, formed_allows, formed_refuses, keygen_allows, load_allows, load_refuses, promise_allows, verify_allows}
+use Rattle.nr_laws_program.proofs.FileOrder.{audit_allows, check_allows, collect_allows, formed_allows, formed_refuses, keygen_allows, load_allows, load_refuses, promise_allows, verify_allows}
 
 -- ---- what the later refusals allow
 
@@ -519,6 +519,7 @@ request_allows (Check q) = check_allows q
 request_allows (Record q) = record_allows q
 request_allows (Answer q) = answer_allows q
 request_allows (Verify q) = verify_allows q
+request_allows (Collect q) = collect_allows q
 
 pub run_refused_by : (words : List (List ℕ)) (request : Request) (refusal : Refusal) (old new : Disk) (before after : Tape) (status : ℕ) → request_in words ≡ Some request → (run : RunsTo (plan_for words) old new before after status)
     → run.result ≡ Err (plans.Refused refusal) → OnlyBy (Permits request refusal) old new

@@ -7,11 +7,15 @@ ghost use Rattle.nr_spec_plans.specs.Plans.{Refused};
 ghost use Rattle.nr_spec_plans.specs.Steps.{DoneBy, OnlyBy};
 ghost use Rattle.nr_spec_history.specs.KeyFiles.{Key, key_file};
 ghost use Rattle.nr_spec_log.specs.Answer.{AnswerFile, answer_file};
+ghost use Rattle.nr_spec_log.specs.Authenticator.{auths_file};
+ghost use Rattle.nr_spec_collecting.specs.Collecting.{heads_from};
 ghost use Rattle.nr_spec_commands.specs.Words.{
   Answer,
   AnswerRequest,
   Audit,
   AuditRequest,
+  Collect,
+  CollectRequest,
   Keygen,
   KeygenRequest,
   Request,
@@ -19,6 +23,7 @@ ghost use Rattle.nr_spec_commands.specs.Words.{
 };
 ghost use Rattle.nr_spec_program.specs.Command.{Ending, Refusal, Work, fault_ending, key_plan};
 ghost use Rattle.nr_spec_program.specs.Recording.{answered_ending};
+ghost use Rattle.nr_spec_program.specs.Collecting.{collected_ending, frames_plan};
 ghost use Rattle.nr_spec_program.specs.Table.{plan_for, plan_of};
 ghost use Rattle.nr_spec_program.specs.Running.{RunsTo};
 ghost use Rattle.nr_spec_program.specs.Causes.{
@@ -33,6 +38,7 @@ ghost use Rattle.nr_spec_program.specs.Causes.{
   OnlyTheSinkFails,
   Permits,
   SavesEvidence,
+  SavesHeads,
   SavesKey,
   Touches,
   WroteNothing,
@@ -188,6 +194,26 @@ pub fn answer_may_leave()
         → (option_map (λ t. t.holds) new.told ≡ option_map (λ t. t.holds) old.told)
         ⊎ ((answer : AnswerFile) × IsReply t.holds q answer
         × ((u : Told) × (new.told ≡ Some u) × LeftByWriting q.out (answer_file answer) t u)) }
+{}
+
+/// Where `collect` answers 0, or has that ending and the sink fails, the authenticator file was cut, written and synced,
+/// whatever the files tell; it has the authenticators of the frames that were read for it, of those from the AS. Behind
+/// that only their number is offered.
+pub fn collect_saves_its_heads()
+    ensures { (words : List (List ℕ)) (q : CollectRequest) (old new : Disk) (before after : Tape) (status : ℕ)
+        → request_in words ≡ Some (Collect q) → (run : RunsTo (plan_for words) old new before after status)
+        → Answered (λ s. s ≡ 0) run.ending status → SavesHeads q run.ending old new }
+{}
+
+/// Where files tell what they hold, the authenticator file then holds the authenticators of the frames from the AS,
+/// synced, and no other file has changed. The line has their number.
+pub fn collect_leaves_its_heads()
+    ensures { (words : List (List ℕ)) (q : CollectRequest) (old new : Disk) (before after : Tape) (status : ℕ) (t : Told)
+        → request_in words ≡ Some (Collect q) → old.told ≡ Some t
+        → (run : RunsTo (plan_for words) old new before after status) → Answered (λ s. s ≡ 0) run.ending status
+        → (frames : List (List ℕ)) × (outcome t.holds (frames_plan q) ≡ Ok frames)
+        × (run.ending ≡ collected_ending (heads_from q.asn frames))
+        × ((u : Told) × (new.told ≡ Some u) × Saved q.out (auths_file (heads_from q.asn frames)) t u) }
 {}
 
 /// A run leaves every file as it was that its words name neither for writing nor as the log, whatever came of the run.

@@ -1,7 +1,7 @@
 -- What the words of the command line ask for, by the items that they are.
 use Rattle.std.specs.Prelude.{◌≡◌, ◌∷◌, ℕ, List, Option, Some}
 use Rattle.nr_words.specs.Grammar.{Grammar, Values}
-use Rattle.nr_spec_commands.specs.Words.{Request, Answer, Audit, Check, Keygen, Record, Verify, answer_grammar, answer_in, audit_grammar, audit_in, check_grammar, check_in, keygen_grammar, keygen_in, record_grammar, record_in, verify_grammar, verify_in}
+use Rattle.nr_spec_commands.specs.Words.{Request, Answer, Audit, Check, Collect, Keygen, Record, Verify, answer_grammar, answer_in, audit_grammar, audit_in, check_grammar, check_in, collect_grammar, collect_in, keygen_grammar, keygen_in, record_grammar, record_in, verify_grammar, verify_in}
 use Rattle.nr_laws_words.specs.Pairs.{Gives}
 
 -- The words are the command word and items, whose values are read as what the command is asked for.
@@ -20,3 +20,4 @@ Asks words (Check q) = AsksBy check_grammar check_in words q
 Asks words (Record q) = AsksBy record_grammar record_in words q
 Asks words (Answer q) = AsksBy answer_grammar answer_in words q
 Asks words (Verify q) = AsksBy verify_grammar verify_in words q
+Asks words (Collect q) = AsksBy collect_grammar collect_in words q

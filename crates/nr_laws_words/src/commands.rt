@@ -7,6 +7,7 @@ ghost use Rattle.nr_spec_commands.specs.Words.{
   answer_grammar,
   audit_grammar,
   check_grammar,
+  collect_grammar,
   keygen_grammar,
   record_grammar,
   request_in,
@@ -36,6 +37,9 @@ pub fn words_of_commands_are_pairs()
     ensures verify { (words : List (List ℕ)) (values : Values)
         → (values_in verify_grammar (verify_grammar.command ∷ words) ≡ Some values)
         ↔ Gives verify_grammar words values }
+    ensures collect { (words : List (List ℕ)) (values : Values)
+        → (values_in collect_grammar (collect_grammar.command ∷ words) ≡ Some values)
+        ↔ Gives collect_grammar words values }
 {}
 
 /// Words ask for something exactly where they are a command word and its options with their values, which are read

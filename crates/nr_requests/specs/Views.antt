@@ -8,6 +8,7 @@ use Rattle.nr_requests.specs.declared.request.CheckRequest as declared_check
 use Rattle.nr_requests.specs.declared.record_request.RecordRequest as declared_record
 use Rattle.nr_requests.specs.declared.answer_request.AnswerRequest as declared_answer
 use Rattle.nr_requests.specs.declared.verify_request.VerifyRequest as declared_verify
+use Rattle.nr_requests.specs.declared.collect_request.CollectRequest as declared_collect
 use Rattle.nr_requests.specs.declared.request.Request.{Request}
 use Rattle.nr_requests.specs.declared.request.Request.TheVariants as request
 
@@ -42,6 +43,9 @@ answer_request_of q = record { key = q.key.now; log = q.log.now; out = q.out.now
 abbrev pub verify_request_of : declared_verify.VerifyRequest → words.VerifyRequest
 verify_request_of q = record { root = q.root.0; evidence = q.evidence.now }
 
+abbrev pub collect_request_of : declared_collect.CollectRequest → words.CollectRequest
+collect_request_of q = record { frames = q.frames.now; asn = q.asn; out = q.out.now }
+
 abbrev pub request_of : Request → words.Request
 request_of (request.Audit q) = words.Audit (audit_request_of q)
 request_of (request.Keygen q) = words.Keygen (keygen_request_of q)
@@ -49,3 +53,4 @@ request_of (request.Check q) = words.Check (check_request_of q)
 request_of (request.Record q) = words.Record (record_request_of q)
 request_of (request.Answer q) = words.Answer (answer_request_of q)
 request_of (request.Verify q) = words.Verify (verify_request_of q)
+request_of (request.Collect q) = words.Collect (collect_request_of q)

@@ -2,6 +2,7 @@
 #![tactic(auto)]
 
 mod answer_request;
+mod collect_request;
 mod key_request;
 mod numbers;
 mod record_request;
@@ -11,6 +12,7 @@ mod values;
 mod verify_request;
 
 pub use answer_request::AnswerRequest;
+pub use collect_request::CollectRequest;
 pub use key_request::KeygenRequest;
 pub use record_request::RecordRequest;
 pub use request::{AuditRequest, CheckRequest, Request, request_from};

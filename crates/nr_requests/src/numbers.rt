@@ -11,6 +11,9 @@ use nr_evidence::Period;
 // The greatest number that a word may write.
 const MOST_NUMBER: u64 = 9_223_372_036_854_775_807;
 
+/// The greatest number of an AS.
+pub const MOST_ASN: u64 = 4_294_967_295;
+
 fn are_digits(word: &[u8]) -> bool
     ensures { result ≡ all_ascii_digits word.now }
 {

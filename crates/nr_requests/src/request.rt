@@ -5,12 +5,13 @@ ghost use Rattle.std.specs.String.{string_bytes};
 ghost use Rattle.nr_words.specs.Views.{given_by};
 ghost use Rattle.nr_spec_commands.specs.Words.{are_apart, named, answer_request, audit_in, audit_request, check_in};
 ghost use Rattle.nr_spec_commands.specs.Words.{check_request, keygen_in, keygen_request, record_request, request_in};
-ghost use Rattle.nr_spec_commands.specs.Words.{verify_request};
+ghost use Rattle.nr_spec_commands.specs.Words.{collect_request, verify_request};
 ghost use Rattle.nr_requests.specs.Views.{audit_request_of, check_request_of, keygen_request_of, request_of};
 
 use crate::answer_request::{ANSWER, AnswerRequest, answer_from};
+use crate::collect_request::{COLLECT, CollectRequest, collect_from};
 use crate::key_request::KeygenRequest;
-use crate::numbers::{number_between, number_of, period_from};
+use crate::numbers::{MOST_ASN, number_between, number_of, period_from};
 use crate::record_request::{RECORD, RecordRequest, record_from};
 use crate::roots::root_in;
 use crate::values::value_of;
@@ -88,8 +89,6 @@ const CHECK: Grammar = Grammar {
     files: false,
 };
 
-const MOST_ASN: u64 = 4_294_967_295;
-
 const MOST_HEIGHT: u64 = 16;
 
 /// What `audit` is asked for: the root of the audited network, the names of three files, a period, and the name of the
@@ -119,6 +118,7 @@ pub enum Request<'a> {
     Record(RecordRequest<'a>),
     Answer(AnswerRequest<'a>),
     Verify(VerifyRequest<'a>),
+    Collect(CollectRequest<'a>),
 }
 
 // Whether no two names of an audit are equal.
@@ -264,6 +264,18 @@ fn verify_words<'a>(alloc: Global, words: &'a [String]) -> Result<Option<Request
     }
 }
 
+fn collect_words<'a>(alloc: Global, words: &'a [String]) -> Result<Option<Request<'a>>, Memory>
+    ensures { IfOk result (λ request. option_map request_of request ≡ collect_request (map string_bytes words.now)) }
+{
+    let Some(values) = values_of(alloc, &COLLECT, words)? else {
+        return Ok(None);
+    };
+    match collect_from(&values) {
+        None => Ok(None),
+        Some(collecting) => Ok(Some(Request::Collect(collecting))),
+    }
+}
+
 /// What the words ask for. `None` exactly where they aren't taken.
 #[tactic(auto, unfolding(nr_spec_commands::specs::Words::request_in))]
 pub fn request_from<'a>(alloc: Global, words: &'a [String]) -> Result<Option<Request<'a>>, Memory>
@@ -289,6 +301,9 @@ pub fn request_from<'a>(alloc: Global, words: &'a [String]) -> Result<Option<Req
     }
     if command.as_str() == "verify" {
         return verify_words(alloc, words);
+    }
+    if command.as_str() == "collect" {
+        return collect_words(alloc, words);
     }
     Ok(None)
 }

@@ -7,7 +7,7 @@ use nr_merkle::Tree;
 use rand_chacha::ChaCha20Rng;
 use rand_core::SeedableRng;
 use rand_core::utils::NextWord;
-use std::test::Fail;
+use std::alloc::Global;
 
 /// The bytes 0, 1, .. 31.
 pub const SEED: [u8; 32] = [
@@ -35,14 +35,21 @@ const BLOCK: [u32; 16] = [
     0x4e3c_50a2,
 ];
 
-#[test]
-fn chacha20_block(rt: HostRuntime) {
+fn has_block() -> bool {
     let mut words = ChaCha20Rng::from_seed(SEED);
     words.set_stream(0x4a00_0000);
     words.set_word_pos(0x0900_0000_0000_0001 * 16);
     for word in BLOCK {
-        assert_eq!(rt; words.next_word(), word);
+        if words.next_word() != word {
+            return false;
+        }
     }
+    true
+}
+
+#[test]
+fn chacha20_block(rt: HostRuntime) {
+    assert!(rt; has_block());
 }
 
 // A leaf's number, and its public leaf.
@@ -59,19 +66,21 @@ const LEAVES: [(u32, &str); 2] = [
 
 const PAIRS: &str = "6a78ba969c6646c31d51d31fb5185628e493d87a57ac8ef463d655c65aa638f6";
 
-#[test]
-fn leaves(rt: HostRuntime) -> Result<(), Fail> {
-    let seed = Seed(SEED);
-    for (number, leaf) in LEAVES {
-        assert!(rt; is_hex(&public_leaf(&seed, number), leaf));
-    }
+fn signs(alloc: Global, seed: &Seed) -> bool {
     let digest = sha256(b"\x02body");
-    let mut pairs = Vec::new(rt.alloc());
-    sign(&seed, 1, &digest, &mut pairs)?;
-    assert_eq!(rt; pairs.len(), 16384);
-    assert!(rt; is_hex(&sha256(&pairs), PAIRS));
-    assert_eq!(rt; leaf_of(&pairs, &digest), public_leaf(&seed, 1));
-    Ok(())
+    let mut pairs = Vec::new(alloc);
+    sign(seed, 1, &digest, &mut pairs).is_ok()
+        && pairs.len() == 16384
+        && is_hex(&sha256(&pairs), PAIRS)
+        && leaf_of(&pairs, &digest) == public_leaf(seed, 1)
+}
+
+#[test]
+fn leaves(rt: HostRuntime) {
+    for (number, leaf) in LEAVES {
+        assert!(rt; is_hex(&public_leaf(&Seed(SEED), number), leaf));
+    }
+    assert!(rt; signs(rt.alloc(), &Seed(SEED)));
 }
 
 // A height, and the root of the seed's tree of that height.
@@ -90,13 +99,27 @@ const ROOTS: [(u8, &str); 3] = [
     ),
 ];
 
-#[test]
-fn roots(rt: HostRuntime) -> Result<(), Fail> {
-    for (height, root) in ROOTS {
-        assert!(rt; 1 <= height && height <= 16);
-        let tree = Tree::build(rt.alloc(), &Seed(SEED), height)?.copy()?;
-        assert_eq!(rt; tree.height(), height);
-        assert!(rt; is_hex(&tree.root(), root));
+fn is_root(tree: &Tree, height: u8, root: &str) -> bool {
+    tree.height() == height && is_hex(&tree.root(), root)
+}
+
+// Whether a tree of this height, and its copy, have the root.
+fn has_root(alloc: Global, height: u8, root: &str) -> bool {
+    if height < 1 || 16 < height {
+        return false;
     }
-    Ok(())
+    let Ok(tree) = Tree::build(alloc, &Seed(SEED), height) else {
+        return false;
+    };
+    match tree.copy() {
+        Ok(copy) => is_root(&tree, height, root) && is_root(&copy, height, root),
+        Err(_) => false,
+    }
+}
+
+#[test]
+fn roots(rt: HostRuntime) {
+    for (height, root) in ROOTS {
+        assert!(rt; has_root(rt.alloc(), height, root));
+    }
 }

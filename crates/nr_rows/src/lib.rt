@@ -1,4 +1,4 @@
-//! Rows of library calls on bytes, digests, keys, answers and words: tables with what each call has to answer. It has
+//! Rows of library calls on bytes, digests, keys and answers: tables with what each call has to answer. It has
 //! nothing but tests. Expected values come from the formats and the standards, or from another program.
 #![tactic(auto)]
 
@@ -12,5 +12,3 @@ mod digests;
 mod keys;
 #[cfg(test)]
 mod signatures;
-#[cfg(test)]
-mod words;

@@ -11,7 +11,7 @@ ghost use Rattle.nr_rule_syntax.specs.Views.{Reads, AreNoMore};
 
 use crate::fault::ParseError;
 use crate::formula::whole_formula;
-use crate::step::{address, expect, name, number, prefix, refused, root, sees};
+use crate::step::{address, expect, followed, name, number, prefix, refused, root, sees};
 use crate::tree::{Decl, Name, Num, PatternText, PrefixText, RootText};
 use nr_rule_tokens::Tokens;
 use nr_spec_rules::{Kind, Span};
@@ -56,19 +56,18 @@ fn neighbour(alloc: Global, tokens: &mut Tokens<'_>) -> Result<Decl, ParseError>
     ensures shorter { OnOk result (length tokens.new < length tokens.old) }
 {
     tokens.pass();
-    let name = name(alloc, tokens)?;
-    expect(tokens, Kind::As)?;
+    let name = followed(name(alloc, tokens)?, tokens, Kind::As)?;
     let asn = number(tokens)?;
     expect(tokens, Kind::At)?;
     let addr = address(tokens)?;
     let key = key(tokens)?;
-    expect(tokens, Kind::Semicolon)?;
-    Ok(Decl::Neighbour {
+    let neighbour = Decl::Neighbour {
         name,
         asn,
         addr,
         key,
-    })
+    };
+    followed(neighbour, tokens, Kind::Semicolon)
 }
 
 // `NAME { , NAME }`
@@ -94,11 +93,9 @@ fn group(alloc: Global, tokens: &mut Tokens<'_>) -> Result<Decl, ParseError>
     ensures shorter { OnOk result (length tokens.new < length tokens.old) }
 {
     tokens.pass();
-    let name = name(alloc, tokens)?;
-    expect(tokens, Kind::Equal)?;
+    let name = followed(name(alloc, tokens)?, tokens, Kind::Equal)?;
     let members = names(alloc, tokens)?;
-    expect(tokens, Kind::Semicolon)?;
-    Ok(Decl::Group { name, members })
+    followed(Decl::Group { name, members }, tokens, Kind::Semicolon)
 }
 
 // `PREFIX [ le NUMBER ]`
@@ -143,11 +140,9 @@ fn define(alloc: Global, tokens: &mut Tokens<'_>) -> Result<Decl, ParseError>
     ensures shorter { OnOk result (length tokens.new < length tokens.old) }
 {
     tokens.pass();
-    let name = name(alloc, tokens)?;
-    expect(tokens, Kind::Equal)?;
+    let name = followed(name(alloc, tokens)?, tokens, Kind::Equal)?;
     let patterns = patterns(alloc, tokens)?;
-    expect(tokens, Kind::Semicolon)?;
-    Ok(Decl::Define { name, patterns })
+    followed(Decl::Define { name, patterns }, tokens, Kind::Semicolon)
 }
 
 // `PREFIX { , PREFIX }`
@@ -186,8 +181,7 @@ fn terms_of_promise(
     ensures value { Reads result tokens.new (spec.terms_of_promise tokens.old) }
     ensures onward { AreNoMore tokens.old tokens.new }
 {
-    let name = name(alloc, tokens)?;
-    expect(tokens, Kind::Grace)?;
+    let name = followed(name(alloc, tokens)?, tokens, Kind::Grace)?;
     let grace = number(tokens)?;
     let at = places(alloc, tokens)?;
     Ok((name, grace, at))
@@ -202,16 +196,16 @@ fn promise(alloc: Global, tokens: &mut Tokens<'_>) -> Result<Decl, ParseError>
     ensures shorter { OnOk result (length tokens.new < length tokens.old) }
 {
     tokens.pass();
-    let (name, grace, at) = terms_of_promise(alloc, tokens)?;
-    expect(tokens, Kind::OpenBrace)?;
+    let terms = terms_of_promise(alloc, tokens)?;
+    let (name, grace, at) = followed(terms, tokens, Kind::OpenBrace)?;
     let form = whole_formula(alloc, tokens)?;
-    expect(tokens, Kind::CloseBrace)?;
-    Ok(Decl::Promise {
+    let promise = Decl::Promise {
         name,
         grace,
         at,
         form,
-    })
+    };
+    followed(promise, tokens, Kind::CloseBrace)
 }
 
 #[tactic(auto, unfolding(crate::specs::Reading::declaration))]

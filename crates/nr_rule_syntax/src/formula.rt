@@ -11,7 +11,7 @@ ghost use Rattle.nr_rule_syntax.specs.Nests.{Nests};
 ghost use Rattle.nr_rule_syntax.specs.Nesting.{measured, depth, depth_within, most_within, IsInside};
 
 use crate::fault::ParseError;
-use crate::step::{expect, name, refused, sees};
+use crate::step::{followed, name, refused, sees};
 use crate::term::{about, compared, in_set, route};
 use crate::tree::{Form, Name, Side};
 use nr_rule_tokens::Tokens;
@@ -82,9 +82,7 @@ impl<F: Fn(Global, &mut Tokens<'_>, usize, Level) -> Result<Form, ParseError>> G
         ensures onward { AreNoMore tokens.old tokens.new }
     {
         self.open(tokens)?;
-        let held = self.inside(tokens, Level::Whole)?;
-        expect(tokens, Kind::CloseParen)?;
-        Ok(held)
+        followed(self.inside(tokens, Level::Whole)?, tokens, Kind::CloseParen)
     }
 
     // The two names of `all` or `some`, and what is held.
@@ -98,13 +96,10 @@ impl<F: Fn(Global, &mut Tokens<'_>, usize, Level) -> Result<Form, ParseError>> G
         ensures onward { AreNoMore tokens.old tokens.new }
     {
         self.open(tokens)?;
-        let var = name(self.alloc, tokens)?;
-        expect(tokens, Kind::In)?;
-        let group = name(self.alloc, tokens)?;
-        expect(tokens, Kind::OpenBrace)?;
+        let var = followed(name(self.alloc, tokens)?, tokens, Kind::In)?;
+        let group = followed(name(self.alloc, tokens)?, tokens, Kind::OpenBrace)?;
         let held = self.held(tokens, Level::Whole)?;
-        expect(tokens, Kind::CloseBrace)?;
-        Ok((var, group, held))
+        followed((var, group, held), tokens, Kind::CloseBrace)
     }
 
     // After `if`: the variable, and the route that it stands for.
@@ -115,11 +110,9 @@ impl<F: Fn(Global, &mut Tokens<'_>, usize, Level) -> Result<Form, ParseError>> G
         ensures onward { AreNoMore tokens.old tokens.new }
     {
         self.open(tokens)?;
-        let var = name(self.alloc, tokens)?;
-        expect(tokens, Kind::Equal)?;
+        let var = followed(name(self.alloc, tokens)?, tokens, Kind::Equal)?;
         let from = route(self.alloc, tokens)?;
-        expect(tokens, Kind::Then)?;
-        Ok((var, from))
+        followed((var, from), tokens, Kind::Then)
     }
 
     // The part after `then`, and that after `else`.
@@ -130,11 +123,9 @@ impl<F: Fn(Global, &mut Tokens<'_>, usize, Level) -> Result<Form, ParseError>> G
         ensures nests { IfOk result (λ x. (depth x.0 < self.now.levels) × (depth x.1 < self.now.levels)) }
         ensures onward { AreNoMore tokens.old tokens.new }
     {
-        let yes = self.held(tokens, Level::Whole)?;
-        expect(tokens, Kind::Else)?;
+        let yes = followed(self.held(tokens, Level::Whole)?, tokens, Kind::Else)?;
         let no = self.held(tokens, Level::Whole)?;
-        expect(tokens, Kind::EndWord)?;
-        Ok((yes, no))
+        followed((yes, no), tokens, Kind::EndWord)
     }
 
     #[tactic(auto, unfolding(crate::specs::Reading::conditional))]

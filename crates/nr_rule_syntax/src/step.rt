@@ -1,7 +1,7 @@
 //! The steps of a parser: single tokens, with what their text stands for. A refusal leaves the tokens at the
 //! one that is refused.
 
-ghost use Rattle.std.specs.Prelude.{◌≡◌, ◌<◌, length, true, OnOk};
+ghost use Rattle.std.specs.Prelude.{◌≡◌, ◌<◌, length, drop, true, IfOk, OnOk};
 ghost use Rattle.nr_spec_rules.specs.Tokens.{goes_on, kind_of, place_of};
 ghost use Rattle.nr_spec_rules.specs.Parsing as parsing;
 ghost use Rattle.nr_rule_syntax.specs.Reading as spec;
@@ -46,6 +46,19 @@ pub fn expect(tokens: &mut Tokens<'_>, kind: Kind) -> Result<Span, ParseError>
     let span = tokens.span();
     tokens.pass();
     Ok(span)
+}
+
+/// What was read, where a token of this kind follows.
+pub fn followed<T: Drop>(read: T, tokens: &mut Tokens<'_>, kind: Kind) -> Result<T, ParseError>
+    requires { goes_on kind ≡ true }
+    ensures value { Reads result tokens.new
+        (parsing.and_then (parsing.expect kind tokens.old) (λ _. parsing.pure read)) }
+    ensures same { IfOk result (λ x. x ≡ read) }
+    ensures onward { AreNoMore tokens.old tokens.new }
+    ensures shorter { OnOk result (length tokens.new < length tokens.old) }
+{
+    expect(tokens, kind)?;
+    Ok(read)
 }
 
 #[tactic(auto, unfolding(nr_spec_rules::specs::Parsing::valued, crate::specs::Reading::name))]
@@ -164,7 +177,15 @@ pub fn argument(alloc: Global, tokens: &mut Tokens<'_>) -> Result<Name, ParseErr
     ensures onward { AreNoMore tokens.old tokens.new }
 {
     expect(tokens, Kind::OpenParen)?;
-    let of = name(alloc, tokens)?;
-    expect(tokens, Kind::CloseParen)?;
-    Ok(of)
+    followed(name(alloc, tokens)?, tokens, Kind::CloseParen)
+}
+
+/// The same after a word, which comes next.
+pub fn argument_of_word(alloc: Global, tokens: &mut Tokens<'_>) -> Result<Name, ParseError>
+    requires { goes_on (kind_of tokens.old) ≡ true }
+    ensures value { Reads result tokens.new (spec.argument (drop 1 tokens.old)) }
+    ensures onward { AreNoMore tokens.old tokens.new }
+{
+    tokens.pass();
+    argument(alloc, tokens)
 }

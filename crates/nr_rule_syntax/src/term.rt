@@ -6,7 +6,7 @@ ghost use Rattle.nr_rule_syntax.specs.Reading as spec;
 ghost use Rattle.nr_rule_syntax.specs.Views.{Reads, AreNoMore};
 
 use crate::fault::ParseError;
-use crate::step::{address, argument, community, expect, name, number, refused};
+use crate::step::{address, argument_of_word, community, expect, name, number, refused};
 use crate::tree::{Cmp, Form, Name, Side, Term};
 use nr_rule_tokens::Tokens;
 use nr_spec_rules::Kind;
@@ -25,38 +25,14 @@ pub fn term(alloc: Global, tokens: &mut Tokens<'_>) -> Result<Term, ParseError>
             tokens.pass();
             Ok(Term::Bits)
         }
-        Kind::Length => {
-            tokens.pass();
-            Ok(Term::Length(argument(alloc, tokens)?))
-        }
-        Kind::Med => {
-            tokens.pass();
-            Ok(Term::Med(argument(alloc, tokens)?))
-        }
-        Kind::Pref => {
-            tokens.pass();
-            Ok(Term::Pref(argument(alloc, tokens)?))
-        }
-        Kind::Origin => {
-            tokens.pass();
-            Ok(Term::Origin(argument(alloc, tokens)?))
-        }
-        Kind::First => {
-            tokens.pass();
-            Ok(Term::First(argument(alloc, tokens)?))
-        }
-        Kind::Last => {
-            tokens.pass();
-            Ok(Term::Last(argument(alloc, tokens)?))
-        }
-        Kind::Hop => {
-            tokens.pass();
-            Ok(Term::Hop(argument(alloc, tokens)?))
-        }
-        Kind::Asn => {
-            tokens.pass();
-            Ok(Term::Asn(argument(alloc, tokens)?))
-        }
+        Kind::Length => Ok(Term::Length(argument_of_word(alloc, tokens)?)),
+        Kind::Med => Ok(Term::Med(argument_of_word(alloc, tokens)?)),
+        Kind::Pref => Ok(Term::Pref(argument_of_word(alloc, tokens)?)),
+        Kind::Origin => Ok(Term::Origin(argument_of_word(alloc, tokens)?)),
+        Kind::First => Ok(Term::First(argument_of_word(alloc, tokens)?)),
+        Kind::Last => Ok(Term::Last(argument_of_word(alloc, tokens)?)),
+        Kind::Hop => Ok(Term::Hop(argument_of_word(alloc, tokens)?)),
+        Kind::Asn => Ok(Term::Asn(argument_of_word(alloc, tokens)?)),
         _ => Err(refused(tokens)),
     }
 }
@@ -98,17 +74,12 @@ pub fn route(alloc: Global, tokens: &mut Tokens<'_>) -> Result<(Side, Name), Par
     ensures value { Reads result tokens.new (spec.route tokens.old) }
     ensures onward { AreNoMore tokens.old tokens.new }
 {
-    match tokens.kind() {
-        Kind::Sent => {
-            tokens.pass();
-            Ok((Side::Sent, argument(alloc, tokens)?))
-        }
-        Kind::Received => {
-            tokens.pass();
-            Ok((Side::Received, argument(alloc, tokens)?))
-        }
-        _ => Err(refused(tokens)),
-    }
+    let side = match tokens.kind() {
+        Kind::Sent => Side::Sent,
+        Kind::Received => Side::Received,
+        _ => return Err(refused(tokens)),
+    };
+    Ok((side, argument_of_word(alloc, tokens)?))
 }
 
 /// `has COMMUNITY`, `crosses Term` or `is NAME`, after a name.

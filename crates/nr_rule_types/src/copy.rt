@@ -38,6 +38,19 @@ fn copy_over(
     Ok((group, copy_held(alloc, form)?))
 }
 
+// A formula beside another, which was copied before it.
+#[cycle(copy)]
+fn copy_beside(
+    alloc: Global,
+    form: &Typing,
+    first: Boxed<Typing>,
+) -> Result<(Boxed<Typing>, Boxed<Typing>), AllocError>
+    ensures { IfOk result (λ copy. copy ≡ (first, form.now)) }
+{
+    let second = copy_held(alloc, form)?;
+    Ok((first, second))
+}
+
 /// A formula like this one.
 #[cycle(copy)]
 pub fn copy_form(alloc: Global, form: &Typing) -> Result<Typing, AllocError>
@@ -51,7 +64,8 @@ pub fn copy_form(alloc: Global, form: &Typing) -> Result<Typing, AllocError>
         Typing::Or(members) => Typing::Or(copy_members(alloc, members.as_slice())?),
         Typing::Implies(left, right) => {
             let left = copy_held(alloc, left.get())?;
-            Typing::Implies(left, copy_held(alloc, right.get())?)
+            let (left, right) = copy_beside(alloc, right.get(), left)?;
+            Typing::Implies(left, right)
         }
         Typing::All { var, group, form } => {
             let (group, form) = copy_over(alloc, group, form.get())?;
@@ -75,13 +89,17 @@ pub fn copy_form(alloc: Global, form: &Typing) -> Result<Typing, AllocError>
             of,
             yes,
             no,
-        } => Typing::If {
-            var: *var,
-            side: *side,
-            of: *of,
-            yes: copy_held(alloc, yes.get())?,
-            no: copy_held(alloc, no.get())?,
-        },
+        } => {
+            let yes = copy_held(alloc, yes.get())?;
+            let (yes, no) = copy_beside(alloc, no.get(), yes)?;
+            Typing::If {
+                var: *var,
+                side: *side,
+                of: *of,
+                yes,
+                no,
+            }
+        }
         Typing::Stands { side, of } => Typing::Stands {
             side: *side,
             of: *of,

@@ -5,7 +5,7 @@ ghost use Rattle.std.specs.List.{All};
 ghost use Rattle.nr_rule_syntax.specs.Nesting.{IsNested};
 ghost use Rattle.nr_spec_typing.specs.Declarations as spec;
 ghost use Rattle.nr_spec_typing.specs.Lengths.{FitsLengths};
-ghost use Rattle.nr_rule_types.specs.Views.{Answers};
+ghost use Rattle.nr_rule_types.specs.Views.{Answers, Gives};
 
 use crate::fault::{TypeError, at};
 use crate::group::group;
@@ -20,31 +20,31 @@ use std::alloc::Global;
 
 // `network NUMBER ;`
 #[tactic(auto, unfolding(nr_spec_typing::specs::Declarations::network))]
-fn network<'a>(mut known: Known<'a>, value: &Num, span: Span) -> Result<Known<'a>, TypeError>
-    ensures { Answers result (spec.network known.entry value.now span) }
+fn network(known: &mut Known<'_>, value: &Num, span: Span) -> Result<(), TypeError>
+    ensures { Gives result known.new (spec.network known.old value.now span) }
 {
     if known.network.is_some() {
         return Err(at(span));
     }
     known.network = Some(value.value);
-    Ok(known)
+    Ok(())
 }
 
 // `commit NUMBER ;`
 #[tactic(auto, unfolding(nr_spec_typing::specs::Declarations::commit))]
-fn commit<'a>(mut known: Known<'a>, value: &Num, span: Span) -> Result<Known<'a>, TypeError>
-    ensures { Answers result (spec.commit known.entry value.now span) }
+fn commit(known: &mut Known<'_>, value: &Num, span: Span) -> Result<(), TypeError>
+    ensures { Gives result known.new (spec.commit known.old value.now span) }
 {
     if known.commit.is_some() {
         return Err(at(span));
     }
     known.commit = Some(at_most(MOST_SECONDS, value)?);
-    Ok(known)
+    Ok(())
 }
 
-fn declaration<'a>(alloc: Global, known: Known<'a>, decl: &'a Decl) -> Result<Known<'a>, TypeError>
+fn declaration<'a>(alloc: Global, known: &mut Known<'a>, decl: &'a Decl) -> Result<(), TypeError>
     requires { IsNested decl.now }
-    ensures value { Answers result (spec.declaration known.entry decl.now) }
+    ensures value { Gives result known.new (spec.declaration known.old decl.now) }
     ensures range { IfOk result (λ more. FitsLengths decl.now) }
 {
     match decl {
@@ -75,7 +75,7 @@ pub fn declarations<'a>(alloc: Global, decls: &'a [Decl]) -> Result<Known<'a>, T
 {
     let mut known = Known::new(alloc);
     for decl in decls {
-        known = declaration(alloc, known, decl)?;
+        declaration(alloc, &mut known, decl)?;
     }
     Ok(known)
 }

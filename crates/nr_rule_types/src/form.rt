@@ -1,12 +1,12 @@
 //! Formulas. A call goes deeper only as the formula nests.
 
-ghost use Rattle.std.specs.Prelude.{◌≡◌, ◌+◌, ◌<◌, ◌≤◌, length, map, OnOk};
+ghost use Rattle.std.specs.Prelude.{◌≡◌, ◌+◌, ◌<◌, ◌≤◌, length, map, MatchResult, Ok, IfOk, OnOk};
 ghost use Rattle.nr_rule_syntax.specs.Nesting.{depth};
 ghost use Rattle.nr_spec_typing.specs.declared.tree.Typing.TheVariants as typings;
 ghost use Rattle.nr_rule_types.specs.Depths.{deepest};
 ghost use Rattle.nr_spec_typing.specs.Scopes.{bind};
 ghost use Rattle.nr_spec_typing.specs.Forms as spec;
-ghost use Rattle.nr_rule_types.specs.Views.{Answers, AnswersBy};
+ghost use Rattle.nr_rule_types.specs.Views.{Answers, AnswersBy, Fails};
 
 use crate::fault::TypeError;
 use crate::scope::Scope;
@@ -130,6 +130,24 @@ fn some(
     })
 }
 
+// The same beside another, which was typed before it.
+#[cycle(form)]
+fn held_beside(
+    alloc: Global,
+    scope: &mut Scope<'_, '_>,
+    form: &Form,
+    first: Boxed<Typing>,
+) -> Result<(Boxed<Typing>, Boxed<Typing>), TypeError>
+    requires levels { length scope.old.variables + depth form.now ≤ 64 }
+    ensures first { IfOk result (λ both. both.0 ≡ first) }
+    ensures value { MatchResult result
+        (λ both. spec.typed form.now scope.old ≡ Ok both.1) (λ e. Fails e (spec.typed form.now scope.old)) }
+    ensures kept { OnOk result (scope.new ≡ scope.old) }
+{
+    let second = held(alloc, scope, form)?;
+    Ok((first, second))
+}
+
 /// A formula in its scope, with its names resolved.
 #[cycle(form)]
 #[tactic(auto, unfolding(nr_spec_typing::specs::Forms::implies, nr_spec_typing::specs::Forms::conditional))]
@@ -146,7 +164,7 @@ pub fn typed(alloc: Global, scope: &mut Scope<'_, '_>, form: &Form) -> Result<Ty
         Form::Or(members) => Ok(Typing::Or(each(alloc, scope, members.as_slice())?)),
         Form::Implies(left, right) => {
             let left = held(alloc, scope, left.get())?;
-            let right = held(alloc, scope, right.get())?;
+            let (left, right) = held_beside(alloc, scope, right.get(), left)?;
             Ok(Typing::Implies(left, right))
         }
         Form::All { var, group, form } => all(alloc, scope, var, group, form.get()),
@@ -161,7 +179,7 @@ pub fn typed(alloc: Global, scope: &mut Scope<'_, '_>, form: &Form) -> Result<Ty
             scope.check_new(var)?;
             let of = scope.who(of)?;
             let yes = within(alloc, scope, Bound::Route, var, yes.get())?;
-            let no = held(alloc, scope, no.get())?;
+            let (yes, no) = held_beside(alloc, scope, no.get(), yes)?;
             Ok(Typing::If {
                 var: scope.depth(),
                 side: *side,

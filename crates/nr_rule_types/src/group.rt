@@ -1,7 +1,7 @@
 //! Declarations of groups.
 
 ghost use Rattle.nr_spec_typing.specs.Declarations as spec;
-ghost use Rattle.nr_rule_types.specs.Views.{Answers};
+ghost use Rattle.nr_rule_types.specs.Views.{Answers, Gives};
 
 use crate::fault::{TypeError, at};
 use crate::known::Known;
@@ -39,11 +39,11 @@ fn members(alloc: Global, names: &Names<'_>, texts: &[Name]) -> Result<Shared<u1
 #[tactic(auto, unfolding(nr_spec_typing::specs::Declarations::group))]
 pub fn group<'a>(
     alloc: Global,
-    known: Known<'a>,
+    known: &mut Known<'a>,
     name: &'a Name,
     texts: &[Name],
-) -> Result<Known<'a>, TypeError>
-    ensures { Answers result (spec.group known.entry name.now texts.now) }
+) -> Result<(), TypeError>
+    ensures { Gives result known.new (spec.group known.old name.now texts.now) }
 {
     if !known.names.is_new(name) || known.names.groups() >= MOST_GROUPS {
         return Err(at(name.span));

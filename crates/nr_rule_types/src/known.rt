@@ -1,6 +1,6 @@
 //! What declarations say.
 
-ghost use Rattle.std.specs.Prelude.{◌≡◌, [], true, IfOk, None};
+ghost use Rattle.std.specs.Prelude.{◌≡◌, [], true, OnOk, None};
 ghost use Rattle.nr_spec_typing.specs.Declarations as spec;
 
 use crate::names::Names;
@@ -52,30 +52,12 @@ impl<'a> Known<'a> {
         }
     }
 
-    /// The same with one more name, which is new.
-    pub fn declare(
-        self,
-        alloc: Global,
-        name: &'a Name,
-        means: Named,
-    ) -> Result<Known<'a>, AllocError>
-        requires { spec.is_new self.names name.now ≡ true }
-        ensures { IfOk result
-            (λ known. known ≡ record self.entry { names = spec.declare self.entry.names name.now means }) }
+    /// Adds a name, which is new.
+    pub fn declare(&mut self, alloc: Global, name: &'a Name, means: Named) -> Result<(), AllocError>
+        requires { spec.is_new self.old.names name.now ≡ true }
+        ensures { OnOk result
+            (self.new ≡ record self.old { names = spec.declare self.old.names name.now means }) }
     {
-        let Known {
-            network,
-            commit,
-            names,
-            neighbours,
-            promises,
-        } = self;
-        Ok(Known {
-            network,
-            commit,
-            names: names.declare(alloc, name, means)?,
-            neighbours,
-            promises,
-        })
+        self.names.declare(alloc, name, means)
     }
 }

@@ -1,6 +1,6 @@
 //! The names that were declared.
 
-ghost use Rattle.std.specs.Prelude.{◌≡◌, [], count_by, None, is_none, IfOk};
+ghost use Rattle.std.specs.Prelude.{◌≡◌, [], count_by, None, is_none, OnOk};
 ghost use Rattle.std.specs.Option.{option_copied};
 ghost use Rattle.nr_spec_typing.specs.Scopes.{meaning};
 ghost use Rattle.nr_spec_typing.specs.Declarations.{is_new, is_group, is_define, declare};
@@ -83,23 +83,18 @@ impl<'a> Names<'a> {
         self.list.as_slice().iter().filter(|d| is_define(d)).count()
     }
 
-    /// The names with one more, which is new.
-    pub fn declare(
-        self,
-        alloc: Global,
-        name: &'a Name,
-        means: Named,
-    ) -> Result<Names<'a>, AllocError>
-        requires { meaning self name.now.word ≡ None }
-        ensures { IfOk result (λ names. names ≡ declare self.entry name.now means) }
+    /// Adds a name, which is new.
+    pub fn declare(&mut self, alloc: Global, name: &'a Name, means: Named) -> Result<(), AllocError>
+        requires { meaning self.old name.now.word ≡ None }
+        ensures { OnOk result (self.new ≡ declare self.old name.now means) }
     {
-        let Names {
-            mut list,
-            mut places,
-        } = self;
         let word = Word::from_slice(alloc, name.word.bytes())?;
-        places.insert(name.word.bytes(), list.len())?;
-        list.push(Declared { word, means })?;
-        Ok(Names { list, places })
+        let place = self.list.len();
+        self.list.push(Declared { word, means })?;
+        if let Err(e) = self.places.insert(name.word.bytes(), place) {
+            self.list.pop();
+            return Err(e.into());
+        }
+        Ok(())
     }
 }

@@ -3,7 +3,7 @@
 ghost use Rattle.std.specs.Prelude.{◌≡◌};
 ghost use Rattle.std.specs.List.{list_any};
 ghost use Rattle.nr_spec_typing.specs.Declarations as spec;
-ghost use Rattle.nr_rule_types.specs.Views.{Answers};
+ghost use Rattle.nr_rule_types.specs.Views.{Answers, Gives};
 
 use crate::fault::{TypeError, at};
 use crate::known::Known;
@@ -75,20 +75,20 @@ fn key_of(key: &Option<(RootText, Num)>) -> Result<Option<(Digest, u16)>, TypeEr
 #[tactic(auto, unfolding(nr_spec_typing::specs::Declarations::neighbour))]
 pub fn neighbour<'a>(
     alloc: Global,
-    known: Known<'a>,
+    known: &mut Known<'a>,
     name: &'a Name,
     asn: &Num,
     addr: &Num,
     key: &Option<(RootText, Num)>,
-) -> Result<Known<'a>, TypeError>
-    ensures { Answers result (spec.neighbour known.entry name.now asn.now addr.now key.now) }
+) -> Result<(), TypeError>
+    ensures { Gives result known.new (spec.neighbour known.old name.now asn.now addr.now key.now) }
 {
-    if !is_neighbour_name(&known, name, asn, addr, key) {
+    if !is_neighbour_name(known, name, asn, addr, key) {
         return Err(at(name.span));
     }
     let key = key_of(key)?;
     let number = known.neighbours.len() as u16;
-    let mut known = known.declare(alloc, name, Named::Neighbour(number))?;
+    known.declare(alloc, name, Named::Neighbour(number))?;
     let word = Word::from_slice(alloc, name.word.bytes())?;
     known.neighbours.push(Neighbour {
         name: word,
@@ -96,5 +96,5 @@ pub fn neighbour<'a>(
         addr: addr.value,
         key,
     })?;
-    Ok(known)
+    Ok(())
 }

@@ -3,7 +3,7 @@
 ghost use Rattle.std.specs.Prelude.{◌≡◌, ◌≤◌, map, IfOk};
 ghost use Rattle.nr_rule_syntax.specs.Nesting.{depth};
 ghost use Rattle.nr_spec_typing.specs.Declarations as spec;
-ghost use Rattle.nr_rule_types.specs.Views.{Answers};
+ghost use Rattle.nr_rule_types.specs.Views.{Answers, Gives};
 
 use crate::fault::{TypeError, at};
 use crate::form::typed;
@@ -46,21 +46,21 @@ fn places(alloc: Global, texts: &[PrefixText]) -> Result<Items<Prefix>, TypeErro
 #[tactic(auto, unfolding(nr_spec_typing::specs::Declarations::promise))]
 pub fn promise<'a>(
     alloc: Global,
-    known: Known<'a>,
+    known: &mut Known<'a>,
     name: &'a Name,
     grace: &Num,
     texts: &[PrefixText],
     form: &Form,
-) -> Result<Known<'a>, TypeError>
+) -> Result<(), TypeError>
     requires { depth form.now ≤ 64 }
-    ensures { Answers result (spec.promise known.entry name.now grace.now texts.now form.now) }
+    ensures { Gives result known.new (spec.promise known.old name.now grace.now texts.now form.now) }
 {
     if !known.names.is_new(name) || known.promises.len() >= MOST_PROMISES {
         return Err(at(name.span));
     }
     let grace = at_most(MOST_SECONDS, grace)?;
     let at = places(alloc, texts)?;
-    let mut known = known.declare(alloc, name, Named::Promise)?;
+    known.declare(alloc, name, Named::Promise)?;
     let form = typed(alloc, &mut Scope::new(alloc, &known.names), form)?;
     let name = match Word::from_slice(alloc, name.word.bytes()) {
         Ok(word) => word,
@@ -76,5 +76,5 @@ pub fn promise<'a>(
         at,
         form,
     })?;
-    Ok(known)
+    Ok(())
 }

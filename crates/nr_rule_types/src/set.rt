@@ -5,7 +5,7 @@ ghost use Rattle.std.specs.List.{All};
 ghost use Rattle.nr_spec_typing.specs.Declarations as spec;
 ghost use Rattle.nr_spec_typing.specs.Lengths.{FitsLength};
 ghost use Rattle.nr_spec_typing.specs.Steps.{all_of};
-ghost use Rattle.nr_rule_types.specs.Views.{Answers};
+ghost use Rattle.nr_rule_types.specs.Views.{Answers, Gives};
 
 use crate::fault::{TypeError, at};
 use crate::known::Known;
@@ -59,11 +59,11 @@ fn patterns(alloc: Global, texts: &[PatternText]) -> Result<Shared<Pattern>, Typ
 #[tactic(auto, unfolding(nr_spec_typing::specs::Declarations::define))]
 pub fn define<'a>(
     alloc: Global,
-    known: Known<'a>,
+    known: &mut Known<'a>,
     name: &'a Name,
     texts: &[PatternText],
-) -> Result<Known<'a>, TypeError>
-    ensures value { Answers result (spec.define known.entry name.now texts.now) }
+) -> Result<(), TypeError>
+    ensures value { Gives result known.new (spec.define known.old name.now texts.now) }
     ensures range { IfOk result (λ more. All FitsLength texts.now) }
 {
     if !known.names.is_new(name) || known.names.defines() >= MOST_DEFINES {

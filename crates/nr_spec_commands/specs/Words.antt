@@ -226,6 +226,30 @@ verify_in values = do
   root ← root_in root_word
   Some (record { root = root; evidence = evidence })
 
+-- `collect --frames F --as N --out F`
+abbrev pub collect_grammar : Grammar
+collect_grammar = record {
+  command = codes "collect";
+  options = required (codes "frames") ∷ required (codes "as") ∷ required (codes "out") ∷ [];
+  files = false;
+}
+
+-- what `collect` is asked for: the name of a file of frames, the AS from which they are, and the name of the
+-- authenticator file
+pub record CollectRequest : Type 0 where
+  pub frames : List ℕ
+  pub asn : ℕ
+  pub out : List ℕ
+
+-- Two equal file words aren't taken.
+unfoldable pub collect_in : Values → Option CollectRequest
+collect_in values = do
+  frames ← value_at values 0
+  asn_word ← value_at values 1
+  out ← value_at values 2
+  asn ← number_from 0 most_asn asn_word
+  if bytes_eq frames out then None else Some (record { frames = frames; asn = asn; out = out })
+
 -- ---- the table of commands
 
 pub data Request : Type 0 where
@@ -235,6 +259,7 @@ pub data Request : Type 0 where
   Record : (recording : RecordRequest) → Request
   Answer : (answer : AnswerRequest) → Request
   Verify : (verifying : VerifyRequest) → Request
+  Collect : (collecting : CollectRequest) → Request
 
 abbrev pub audit_request : List (List ℕ) → Option Request
 audit_request words = values_in audit_grammar words >>= λ values. audit_in values >>= λ audit. Some (Audit audit)
@@ -256,6 +281,10 @@ abbrev pub verify_request : List (List ℕ) → Option Request
 verify_request words =
     values_in verify_grammar words >>= λ values. verify_in values >>= λ verifying. Some (Verify verifying)
 
+abbrev pub collect_request : List (List ℕ) → Option Request
+collect_request words =
+    values_in collect_grammar words >>= λ values. collect_in values >>= λ collecting. Some (Collect collecting)
+
 -- what the words ask for, by the command word, which stands first
 unfoldable pub request_in : List (List ℕ) → Option Request
 request_in [] = None
@@ -266,4 +295,5 @@ request_in (command ∷ words) =
     else if bytes_eq command (codes "record") then record_request (command ∷ words)
     else if bytes_eq command (codes "answer") then answer_request (command ∷ words)
     else if bytes_eq command (codes "verify") then verify_request (command ∷ words)
+    else if bytes_eq command (codes "collect") then collect_request (command ∷ words)
     else None

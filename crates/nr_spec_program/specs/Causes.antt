@@ -1,7 +1,7 @@
 -- What a run's status and ending say of the words, of the counts of faults and of the files.
 use Rattle.std.specs.Prelude.{◌≡◌, ◌≢◌, ◌⊎◌, ℕ, ◌≤◌, ◌-◌, Bool, false, true, if◌then◌else◌, List, [], ◌∷◌, ◌++◌, Option, None, Some, Result, Ok, Err, option_map, take}
 use Rattle.nr_spec_history.specs.KeyFiles.{Key, key_file}
-use Rattle.nr_spec_log.specs.Authenticator.{Authenticator, auths_of}
+use Rattle.nr_spec_log.specs.Authenticator.{Authenticator, auths_file, auths_of}
 use Rattle.nr_spec_log.specs.Answer.{AnswerFile, answer_of}
 use Rattle.nr_spec_store.specs.LogFile.{LogFile}
 use Rattle.nr_spec_plans.specs.Disk.{Contents, Disk, Tape, Fault, Memory, Cuts, Writes, Syncs, more}
@@ -10,13 +10,15 @@ use Rattle.nr_spec_plans.specs.Laws.{IsAmong, IsRead, Unchanged, fault_in, outco
 use Rattle.nr_spec_plans.specs.Steps.{OnlyBy}
 use Rattle.nr_spec_outcome.specs.Report.{Report}
 use Rattle.nr_spec_saving.specs.Saving.{PartsSaved, evidence_parts}
-use Rattle.nr_spec_commands.specs.Words.{named, Request, AuditRequest, KeygenRequest, Audit, Keygen, Check, Record, Answer, Verify}
+use Rattle.nr_spec_commands.specs.Words.{named, Request, AuditRequest, CollectRequest, KeygenRequest, Audit, Keygen, Check, Record, Answer, Verify, Collect}
 use Rattle.nr_spec_texts.specs.Promises.{PromiseFile}
 use Rattle.nr_spec_program.specs.Command as command
 use Rattle.nr_spec_program.specs.Command.{Input, PromiseInput, AnswerInput, AuthsInput, KeyInput, LogInput, MrtInput, LogFact, KeySpent, LongEvidence, LongLog, NoFile, Limit, Malformed, Prevented, Work, Ending, Refusal, refusal_ending, fault_ending, key_ending, promise_ending, promise_plan, key_plan, load, well_formed, judged, audit_ending, evidence_of_report}
 use Rattle.nr_spec_program.specs.Recording.{answered_ending, recorded_ending}
 use Rattle.nr_spec_program.specs.Verifying.{verified_ending}
+use Rattle.nr_spec_program.specs.Collecting.{collected_ending, frames_plan}
 use Rattle.nr_spec_verify.specs.Verified.{verified}
+use Rattle.nr_spec_collecting.specs.Collecting.{heads_from}
 
 -- ---- counts
 
@@ -49,6 +51,7 @@ EndOf (Record q) e = (before after : LogFile) × ((skips : ℕ) × (e ≡ record
 EndOf (Answer q) e = (answer : AnswerFile) × (e ≡ answered_ending answer)
 EndOf (Verify q) e =
     (bytes : List ℕ) × (claims : List Bool) × (verified q.root bytes ≡ Ok claims) × (e ≡ verified_ending claims)
+EndOf (Collect q) e = (frames : List (List ℕ)) × (e ≡ collected_ending (heads_from q.asn frames))
 
 -- The words ask for a request, whose plan gave an ending of this status.
 pub record GaveEnding (request : Option Request) (result : Result Ending (Halt Refusal)) (status : ℕ) : Type 0 where
@@ -108,6 +111,7 @@ read_names (Check q) = q.promise ∷ []
 read_names (Record q) = q.promise ∷ q.key ∷ (q.files ++ q.log ∷ [])
 read_names (Answer q) = q.key ∷ q.log ∷ []
 read_names (Verify q) = q.evidence ∷ []
+read_names (Collect q) = q.frames ∷ []
 
 -- the log of a request, which is synced before it is read
 abbrev pub log_names : Request → List (List ℕ)
@@ -117,6 +121,7 @@ log_names (Check q) = []
 log_names (Record q) = q.log ∷ []
 log_names (Answer q) = q.log ∷ []
 log_names (Verify q) = []
+log_names (Collect q) = []
 
 -- the files that a request may write
 abbrev pub written_names : Request → List (List ℕ)
@@ -126,6 +131,7 @@ written_names (Check q) = []
 written_names (Record q) = q.log ∷ []
 written_names (Answer q) = q.out ∷ []
 written_names (Verify q) = []
+written_names (Collect q) = q.out ∷ []
 
 -- the same of the words; those that aren't taken name no file
 abbrev pub read_in : Option Request → List (List ℕ)
@@ -166,6 +172,7 @@ names_before (Record q) input = []
 names_before (Answer q) LogInput = q.key ∷ []
 names_before (Answer q) input = []
 names_before (Verify q) input = []
+names_before (Collect q) input = []
 
 -- the same with this one
 abbrev pub names_until : Request → Input → List (List ℕ)
@@ -183,6 +190,7 @@ names_until (Record q) input = []
 names_until (Answer q) LogInput = q.key ∷ q.log ∷ []
 names_until (Answer q) input = q.key ∷ []
 names_until (Verify q) input = q.evidence ∷ []
+names_until (Collect q) input = q.frames ∷ []
 
 -- The files that were asked for where this refuses: none after the refused one.
 abbrev pub names_asked : Request → Refusal → List (List ℕ)
@@ -300,6 +308,20 @@ pub record SavesKey (q : KeygenRequest) (old new : Disk) : Type 0 where
   pub cuts : Cuts q.key 0 read cut (Ok tt)
   pub writes : Writes q.key 0 (key_file key) cut wrote (Ok tt)
   pub syncs : Syncs q.key wrote new (Ok tt)
+
+-- The bytes of frames were got from their file, and after that the authenticator file was cut to nothing, written and
+-- synced, and each of these went well: it holds the authenticators of the frames from the AS. What is then offered to the
+-- sink says how many they are.
+pub record SavesHeads (q : CollectRequest) (e : Ending) (old new : Disk) : Type 0 where
+  pub frames : List (List ℕ)
+  pub read : Disk
+  pub cut : Disk
+  pub wrote : Disk
+  pub gets : Runs (frames_plan q) old read (Ok frames)
+  pub cuts : Cuts q.out 0 read cut (Ok tt)
+  pub writes : Writes q.out 0 (auths_file (heads_from q.asn frames)) cut wrote (Ok tt)
+  pub syncs : Syncs q.out wrote new (Ok tt)
+  pub offers : e ≡ collected_ending (heads_from q.asn frames)
 
 -- what an audit has of its files before it writes: what the promise file says, the bytes of the answer, and the report
 -- on that answer

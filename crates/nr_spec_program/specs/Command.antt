@@ -13,6 +13,7 @@ use Rattle.nr_spec_steps.specs.Telling.{most_raw}
 use Rattle.nr_spec_store.specs.LogFile.{most_log}
 use Rattle.nr_spec_report.specs.Claims.{Claim}
 use Rattle.nr_spec_evidence.specs.Evidence.{EvidenceFile, most_evidence}
+use Rattle.nr_spec_frames.specs.Frames.{most_frames}
 use Rattle.nr_spec_saving.specs.Saving.{TooLong, save_evidence}
 use Rattle.nr_spec_outcome.specs.Report.{Report, claims_of}
 use Rattle.nr_spec_outcome.specs.Lines.{report_text}
@@ -34,6 +35,7 @@ pub data Input : Type 0 where
   KeyInput : Input
   LogInput : Input
   EvidenceInput : Input
+  FramesInput : Input
   -- the MRT files, numbered from 1
   MrtInput : (number : ℕ) → Input
 
@@ -46,6 +48,7 @@ input_name SeedInput = codes "seed"
 input_name KeyInput = codes "key"
 input_name LogInput = codes "log"
 input_name EvidenceInput = codes "evidence"
+input_name FramesInput = codes "frames"
 input_name (MrtInput number) = codes "mrt" ++ decimal number
 
 -- its greatest size in bytes
@@ -57,6 +60,7 @@ input_limit SeedInput = 1048576
 input_limit KeyInput = 1048576
 input_limit LogInput = most_log
 input_limit EvidenceInput = most_evidence
+input_limit FramesInput = most_frames
 input_limit (MrtInput number) = 2147483647
 
 -- ---- refusals

@@ -2,7 +2,7 @@ use Rattle.std.proofs.Common.{◌≡◌, ◌∙◌, ℕ, Bool, cond, true, false
 use Rattle.std.proofs.lemmas.Slice.Eq.{bytes_eq-Decides}
 use Rattle.nr_words.specs.Grammar.{Grammar, Values, values_in}
 use Rattle.nr_spec_wire.specs.Optional.{◌>>=◌}
-use Rattle.nr_spec_commands.specs.Words.{Request, Answer, Audit, Check, Keygen, Record, Verify, answer_grammar, answer_in, audit_grammar, audit_in, check_grammar, check_in, keygen_grammar, keygen_in, record_grammar, record_in, request_in, verify_grammar, verify_in}
+use Rattle.nr_spec_commands.specs.Words.{Request, Answer, Audit, Check, Collect, Keygen, Record, Verify, answer_grammar, answer_in, audit_grammar, audit_in, check_grammar, check_in, collect_grammar, collect_in, keygen_grammar, keygen_in, record_grammar, record_in, request_in, verify_grammar, verify_in}
 use Rattle.nr_laws_words.specs.Commands.{Asks, AsksBy}
 use Rattle.nr_laws_words.specs.Pairs.{is_clear}
 use Rattle.nr_laws_words.proofs.Theorem.{given, gives}
@@ -62,7 +62,8 @@ asks (command ∷ words) request is =
     (by_word command (codes "record") _ _ request _ refl (asks_for record_grammar refl record_in Record (λ w q a. a) command words request)
     (by_word command (codes "answer") _ _ request _ refl (asks_for answer_grammar refl answer_in Answer (λ w q a. a) command words request)
     (by_word command (codes "verify") _ _ request _ refl (asks_for verify_grammar refl verify_in Verify (λ w q a. a) command words request)
-    (λ bad. absurd cc)))))) is
+    (by_word command (codes "collect") _ _ request _ refl (asks_for collect_grammar refl collect_in Collect (λ w q a. a) command words request)
+    (λ bad. absurd cc))))))) is
 
 asked_by : (words : List (List ℕ)) (request : Request) → Asks words request → request_in words ≡ Some request
 unfolding request_in
@@ -72,6 +73,7 @@ asked_by words (Check q) a = ap request_in a.command ∙ asked check_grammar ref
 asked_by words (Record q) a = ap request_in a.command ∙ asked record_grammar refl record_in Record words q a
 asked_by words (Answer q) a = ap request_in a.command ∙ asked answer_grammar refl answer_in Answer words q a
 asked_by words (Verify q) a = ap request_in a.command ∙ asked verify_grammar refl verify_in Verify words q a
+asked_by words (Collect q) a = ap request_in a.command ∙ asked collect_grammar refl collect_in Collect words q a
 
 pub returns : goal.returns
 returns c = λ words request. (asks words request, asked_by words request)

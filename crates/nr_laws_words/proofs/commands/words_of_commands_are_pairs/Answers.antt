@@ -1,5 +1,5 @@
 use Rattle.std.proofs.Common.{refl}
-use Rattle.nr_spec_commands.specs.Words.{answer_grammar, audit_grammar, check_grammar, keygen_grammar, record_grammar, verify_grammar}
+use Rattle.nr_spec_commands.specs.Words.{answer_grammar, audit_grammar, check_grammar, collect_grammar, keygen_grammar, record_grammar, verify_grammar}
 use Rattle.nr_laws_words.proofs.Theorem.{given, gives}
 use Rattle.nr_laws_words.proofs.commands.words_of_commands_are_pairs.Goals as goal
 
@@ -11,4 +11,5 @@ returns c = record {
   recording = λ words values. (gives record_grammar refl record_grammar.command words values, given record_grammar refl record_grammar.command words values);
   answer = λ words values. (gives answer_grammar refl answer_grammar.command words values, given answer_grammar refl answer_grammar.command words values);
   verify = λ words values. (gives verify_grammar refl verify_grammar.command words values, given verify_grammar refl verify_grammar.command words values);
+  collect = λ words values. (gives collect_grammar refl collect_grammar.command words values, given collect_grammar refl collect_grammar.command words values);
 }

@@ -1,0 +1,10 @@
+use Rattle.std.proofs.Common.{arith}
+use Rattle.nr_discipline.proofs.BodyRead.{decoded, encodes_again}
+use Rattle.nr_spec_bodies.specs.Reading.{base_of}
+use Rattle.nr_discipline.proofs.decoding.decode.Goals as goal
+
+pub returns-clause-base : goal.returns-clause-base
+returns-clause-base c = decoded c.read_base.result (base_of c.args.body.now) c.read_base.ensures
+
+pub returns-clause-again : goal.returns-clause-again
+returns-clause-again c = encodes_again c.args.body.now c.read_base.result (λ i. omega (arith, c.type_inv.body i)) c.read_base.ensures

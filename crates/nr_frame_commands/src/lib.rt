@@ -1,0 +1,6 @@
+//! The commands on frames between neighbours.
+#![tactic(auto)]
+
+mod collecting;
+
+pub use collecting::collect;

@@ -1,0 +1,5 @@
+mod Told
+mod Sights
+mod Rows
+mod Stated
+mod Meeting

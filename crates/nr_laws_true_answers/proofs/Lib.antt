@@ -1,0 +1,4 @@
+mod Bases
+mod Outcomes
+mod Fitting
+mod Started
