@@ -81,7 +81,7 @@ follows_more asn log values new walk moved place e d so_far value seq is walked 
     let at : walk.seq ≡ 1 + length (take place log) = omega arith in
     let all = taken log place e is in
     let here : moved.value ≡ value_after (log_chain asn) (take place log ++ e ∷ []) =
-        ap (λ (c : Chain). c.value) walked ∙ (λ i. link_value (value i) (at i) (shown e)) ∙ sym (value_more (log_chain asn) (take place log) e) in
+    ap (λ (c : Chain). c.value) walked ∙ (λ i. link_value (value i) (at i) (shown e)) ∙ sym (value_more (log_chain asn) (take place log) e) in
     record {
       so_far =
           ap (map digest_bytes) more ∙ map-append digest_bytes values (d ∷ []) ∙ (λ i. so_far i ++ (put ∙ here) i ∷ [])

@@ -91,9 +91,9 @@ tip_is asn n log k e value time leaf at is value_is time_is leaf_is =
       chained = value_is;
       last = time_is ∙ sym (ap (last_time 0) all ∙ last_more 0 (take (k - 1) log) e);
       committed = leaf_is ∙ sym (
-        ap (λ (l : List LogEntry). unwrap_or (last_of (λ (x : LogEntry). leaf_in (content_of x)) l) 0) all
-        ∙ unwrap_push (λ (x : LogEntry). leaf_in (content_of x)) (take (k - 1) log) e 0
-        ∙ leaf_found n (content_of e) _ (ap (λ (x : LogEntry). is_commit_to n (content_of x)) same ∙ at.commits));
+          ap (λ (l : List LogEntry). unwrap_or (last_of (λ (x : LogEntry). leaf_in (content_of x)) l) 0) all
+          ∙ unwrap_push (λ (x : LogEntry). leaf_in (content_of x)) (take (k - 1) log) e 0
+          ∙ leaf_found n (content_of e) _ (ap (λ (x : LogEntry). is_commit_to n (content_of x)) same ∙ at.commits));
     }
   where
     one : (x y : LogEntry) → Some x ≡ Some y → x ≡ y

@@ -37,8 +37,19 @@ impl Core {
     {
         let head = self.sign(commit, &self.tip_at(commit))?;
         let prev = value_at(self.asn, &self.values, after as usize);
-        let items = self.book.seen_by(self.alloc, neighbour, after as usize, commit as usize)?;
+        let items = self
+            .book
+            .seen_by(self.alloc, neighbour, after as usize, commit as usize)?;
         let to_as = self.own.typed.neighbours()[neighbour as usize].asn;
-        write_frame(self.alloc, self.asn, to_as, neighbour, after + 1, &prev, &items, &head)
+        write_frame(
+            self.alloc,
+            self.asn,
+            to_as,
+            neighbour,
+            after + 1,
+            &prev,
+            &items,
+            &head,
+        )
     }
 }

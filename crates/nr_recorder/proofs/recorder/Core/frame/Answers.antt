@@ -27,7 +27,7 @@ returns c =
     let are = subst (λ (v : List Digest). AreLinks c.self.inside.asn c.self.inside.book v) (sym c.deref.ensures.value) c.self.invariant.1 in
     let peers : peers_of c.neighbours.result.now ≡ c.args.self.now.peers = ap peers_of c.neighbours.ensures.value ∙ (λ i. (c.self.view_is i).peers) in
     let below : c.args.neighbour < length c.neighbours.result.now =
-        omega (arith, c.requires.neighbour, ap length peers, length-map c.neighbours.result.now peer_of) in
+    omega (arith, c.requires.neighbour, ap length peers, length-map c.neighbours.result.now peer_of) in
     let whose : Neighbour = slice_index_or c.neighbours.result.now c.args.neighbour c.index-neighbours-neighbour.result in
     written (λ out. out.items) c.write_frame.result _ _
     (frame_is c.self.inside.asn whose.asn c.args.neighbour (c.args.after + 1) c.value_at-prev.result.0 (map frame_item_of c.in_ok-items.items) (head_of key (take c.args.commit log))
