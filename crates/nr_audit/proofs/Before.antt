@@ -4,10 +4,10 @@ use Rattle.std.specs.List.Sorted.{IsStrictlySortedBy}
 use Rattle.nr_spec_routes.specs.Keys.{AreAscending, Row}
 use Rattle.nr_spec_counts.specs.Tallies.{nothing_yet}
 use Rattle.nr_spec_report.specs.Wrong.{nothing_before}
-use Rattle.nr_discipline.specs.Decoded.{base_view}
+use Rattle.nr_discipline.specs.Decoded.{HasRoom, base_view}
 use Rattle.nr_discipline.specs.Kept.{IsKeptOf, Kept}
 use Rattle.nr_discipline.proofs.KnownRead.{kept_of}
-use Rattle.nr_audit.specs.Before.{HasRoom, IsBefore}
+use Rattle.nr_audit.specs.Before.{IsBefore}
 
 -- some base has them
 pub stated : (state : List Row) (counts : Kept) → IsBefore (base_view (state, counts)) state counts

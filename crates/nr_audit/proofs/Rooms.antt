@@ -12,8 +12,8 @@ use Rattle.nr_spec_counts.specs.Tallies.{Numbers, Tally, is_commit, is_send_to, 
 use Rattle.nr_spec_counts.specs.Causes.{cause_of}
 use Rattle.nr_spec_report.specs.Wrong.{Base, WrongEntry, cause_after, is_within, wrong_by, wrong_entries}
 use Rattle.nr_spec_report.proofs.OneMore.{one_wrong_more}
+use Rattle.nr_discipline.specs.Decoded.{HasRoom}
 use Rattle.nr_discipline.specs.Kept.{IsKeptOf, Kept}
-use Rattle.nr_audit.specs.Before.{HasRoom}
 use Rattle.nr_audit.specs.Checked.{cause_within}
 
 pub room_sends : (base : Tally) (past : List LogEntry) (k : Kept) → IsKeptOf (tally_after base past) k → length past < 2 ^ 32 → (n : ℕ) → n < 256 → base.sends n < 2 ^ 63 → slice_index k.sends n + 1 < 2 ^ 64

@@ -2,7 +2,7 @@
 use Rattle.std.proofs.Common.{◌≡◌, ℕ, ◌+◌, ◌<◌, ◌≤◌, ◌^◌, List, [], ◌∷◌, ◌++◌, append_assoc, append-nil, length, slice_index, refl, ap, sym, subst, ◌∙◌, arith}
 use Rattle.std.specs.Prelude.{filter, map}
 use Rattle.std.proofs.lemmas.List.{length-append}
-use Rattle.nr_spec_log.specs.Answer.{AnswerFile}
+use Rattle.nr_spec_log.specs.Answer.{AnswerFile, most_first}
 use Rattle.nr_spec_log.specs.Authenticator.{Authenticator}
 use Rattle.nr_spec_log.specs.Chain.{LogEntry}
 use Rattle.nr_spec_history.specs.Conflicts.{Period, answer_links, answer_value, chain_of, conflicts_of}
@@ -110,7 +110,7 @@ few_past files promises truth base period answer auths before steps e rest w wal
 
 pub room_number : (files : List Numbers) (promises : List PromiseFile) (truth : Truth) (base : Base) (period : Period) (answer : AnswerFile) (auths : List Authenticator) (before steps : ℕ) (e : LogEntry) (rest : List LogEntry) (w : Walked)
     → Walks files promises truth base period answer auths before steps (e ∷ rest) w
-    → answer.first ≤ 4611686018427387904 → length answer.entries < 2 ^ 32 → w.links.walk.seq < 2 ^ 63
+    → answer.first ≤ most_first → length answer.entries < 2 ^ 32 → w.links.walk.seq < 2 ^ 63
 room_number files promises truth base period answer auths before steps e rest w walks first few =
     let past = few_past files promises truth base period answer auths before steps e rest w walks few in
     omega (arith, walks.number, first, past)

@@ -1,6 +1,7 @@
 //! What the entries of an answer show.
 
 ghost use Rattle.std.specs.Prelude.{◌≡◌, ◌≤◌, ◌+◌, ◌<◌, ◌^◌, ℕ, List, IfOk, filter, length, map, option_map, true};
+ghost use Rattle.nr_spec_log.specs.Answer.{most_first};
 ghost use Rattle.nr_chain.specs.Views.{digest_bytes};
 ghost use Rattle.nr_spec_history.specs.Conflicts.{answer_value, conflicts_of};
 ghost use Rattle.nr_spec_routes.specs.Keys.{AreAscending};
@@ -12,7 +13,8 @@ ghost use Rattle.nr_evidence.specs.Views.{period_of};
 ghost use Rattle.nr_runs.specs.Views.{runs_in};
 ghost use Rattle.nr_judging.specs.Views.{AreFew, AreKnown, files_in};
 ghost use Rattle.nr_discipline.specs.Views.{numbers_of};
-ghost use Rattle.nr_audit.specs.Before.{HasRoom, IsBefore};
+ghost use Rattle.nr_discipline.specs.Decoded.{HasRoom};
+ghost use Rattle.nr_audit.specs.Before.{IsBefore};
 ghost use Rattle.nr_audit.specs.Slots.{accuses};
 ghost use Rattle.nr_audit.specs.Views.{audited_of, wrong_of};
 
@@ -58,7 +60,7 @@ fn found_in<J: Judge<L>, L: Ledger>(
     judge: &J,
     steps: &mut Steps<L>,
 ) -> Result<Findings, Memory>
-    requires first { answer.now.first ≤ 4611686018427387904 }
+    requires first { answer.now.first ≤ most_first }
     requires order { AreAscending state }
     requires room { HasRoom counts }
     requires short { length answer.now.entries < 2 ^ 32 }
@@ -107,7 +109,7 @@ pub fn look_through<J: Judge<L>, L: Ledger>(
     judge: &J,
     steps: &mut Steps<L>,
 ) -> Result<Findings, Memory>
-    requires first { answer.now.first ≤ 4611686018427387904 }
+    requires first { answer.now.first ≤ most_first }
     requires order { AreAscending state }
     requires room { HasRoom counts }
     requires knows { AreKnown (λ i r. J.knows judge.now i r ≡ true) (promise_files (map audited_of files.now)) }

@@ -1,13 +1,15 @@
 //! The audit of an answer.
 
 ghost use Rattle.std.specs.Prelude.{◌≡◌, ◌≤◌, ◌+◌, IfOk, length, map, true};
+ghost use Rattle.nr_spec_log.specs.Answer.{most_first};
 ghost use Rattle.nr_spec_routes.specs.Keys.{AreAscending};
 ghost use Rattle.nr_spec_report.specs.Wrong.{Base, nothing_before};
 ghost use Rattle.nr_spec_promises.specs.Counted.{most_asked};
 ghost use Rattle.nr_spec_outcome.specs.Outcome.{outcome, outcome_over, promise_files};
 ghost use Rattle.nr_evidence.specs.Views.{period_of};
 ghost use Rattle.nr_judging.specs.Views.{AreFew, AreKnown};
-ghost use Rattle.nr_audit.specs.Before.{HasRoom, IsBefore};
+ghost use Rattle.nr_discipline.specs.Decoded.{HasRoom};
+ghost use Rattle.nr_audit.specs.Before.{IsBefore};
 ghost use Rattle.nr_audit.specs.Answers.{Answers};
 ghost use Rattle.nr_audit.specs.Views.{audited_of};
 
@@ -43,7 +45,7 @@ pub fn audit_over<J: Judge<L>, L: Ledger>(
     judge: &J,
     steps: &mut Steps<L>,
 ) -> Result<Report, Refusal>
-    requires first { answer.now.first ≤ 4611686018427387904 }
+    requires first { answer.now.first ≤ most_first }
     requires order { AreAscending state }
     requires room { HasRoom counts }
     requires some { 1 ≤ length files.now }

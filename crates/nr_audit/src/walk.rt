@@ -2,7 +2,7 @@
 
 ghost use Rattle.std.specs.Prelude.{◌≡◌, ◌≤◌, ◌∷◌, [], ◌<◌, ◌^◌, ◌+◌, ℕ, List, IfOk, length, map, option_map, slice_index, true};
 ghost use Rattle.nr_chain.specs.Views.{digest_bytes, entry_of};
-ghost use Rattle.nr_spec_log.specs.Answer.{AnswerFile};
+ghost use Rattle.nr_spec_log.specs.Answer.{AnswerFile, most_first};
 ghost use Rattle.nr_spec_log.specs.Authenticator.{Authenticator};
 ghost use Rattle.nr_spec_log.specs.Chain.{LogEntry};
 ghost use Rattle.nr_spec_routes.specs.Keys.{AreAscending};
@@ -15,7 +15,8 @@ ghost use Rattle.nr_discipline.specs.Kept.{IsKeptOf};
 ghost use Rattle.nr_discipline.specs.Views.{numbers_of};
 ghost use Rattle.nr_evidence.specs.Views.{period_of};
 ghost use Rattle.nr_judging.specs.Views.{AreFew, AreKnown, files_in};
-ghost use Rattle.nr_audit.specs.Before.{HasRoom, IsBefore};
+ghost use Rattle.nr_discipline.specs.Decoded.{HasRoom};
+ghost use Rattle.nr_audit.specs.Before.{IsBefore};
 ghost use Rattle.nr_audit.specs.Force.{digest_of};
 ghost use Rattle.nr_audit.specs.Walks.{Walks};
 
@@ -140,7 +141,7 @@ pub fn walk<J: Judge<L>, L: Ledger>(
     judge: &J,
     steps: &mut Steps<L>,
 ) -> Result<Walked, Memory>
-    requires first { answer.now.first ≤ 4611686018427387904 }
+    requires first { answer.now.first ≤ most_first }
     requires short { length answer.now.entries < 2 ^ 32 }
     requires order { AreAscending state }
     requires room { HasRoom counts }

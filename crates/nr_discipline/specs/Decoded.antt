@@ -1,5 +1,5 @@
 -- What decoding gives, in the words of the definitions.
-use Rattle.std.specs.Prelude.{ℕ, ◌≡◌, Err, List, None, Ok, Option, Result, map, slice_index, slice_index_or}
+use Rattle.std.specs.Prelude.{ℕ, ◌<◌, ◌^◌, ◌≡◌, Err, List, None, Ok, Option, Result, map, slice_index, slice_index_or}
 use Rattle.std.specs.List.{range_with_len}
 use Rattle.nr_spec_wire.specs.Reading.{Read, Spot}
 use Rattle.nr_spec_counts.specs.Tallies.{Tally}
@@ -18,6 +18,11 @@ abbrev pub AreDecoded : Result (List Row × Kept) DecodeError → Result Base �
 AreDecoded (Ok found) read = (base : Base) × (read ≡ Ok base) × (found.0 ≡ base.rows) × IsKeptOf base.tally found.1
 AreDecoded (Err (At place)) read = read ≡ Err place.0
 AreDecoded (Err Memory) read = Unit {0}
+
+-- the numbers of SENDs and COMMITs are below 2^63, as the body of a checkpoint states them
+pub record HasRoom (counts : Kept) : Type 0 where
+  pub sends : (n : ℕ) → n < 256 → slice_index counts.sends n < 2 ^ 63
+  pub commits : counts.commits < 2 ^ 63
 
 -- ---- for the parts
 

@@ -1,10 +1,11 @@
 //! Reading checkpoint bodies.
 
 ghost use Rattle.std.specs.Prelude.{◌≡◌, IfOk};
+ghost use Rattle.nr_spec_routes.specs.Keys.{AreAscending};
 ghost use Rattle.nr_spec_counts.specs.Tallies.{Tally};
 ghost use Rattle.nr_spec_counts.specs.Bodies.{checkpoint_body};
 ghost use Rattle.nr_spec_bodies.specs.Reading.{base_of};
-ghost use Rattle.nr_discipline.specs.Decoded.{AreDecoded, Answered, base_view};
+ghost use Rattle.nr_discipline.specs.Decoded.{AreDecoded, Answered, HasRoom, base_view};
 ghost use Rattle.nr_discipline.specs.Kept.{IsKeptOf};
 
 use crate::counts::Counts;
@@ -59,10 +60,13 @@ fn read_base(alloc: Global, body: &[u8]) -> Result<(State, Counts), DecodeError>
 }
 
 /// The routes and the counts that a checkpoint body states, or its first malformed field. The body's blocks are copied
-/// once, into the state. What it gives encodes to the same bytes.
+/// once, into the state. What it gives encodes to the same bytes, has its rows in order, and has room for the entries of
+/// an answer.
 pub fn decode(alloc: Global, body: &[u8]) -> Result<(State, Counts), DecodeError>
     ensures base { AreDecoded result (base_of body.now) }
     ensures again { IfOk result (λ found. (t : Tally) × IsKeptOf t found.1 × (checkpoint_body t found.0 ≡ body.now)) }
+    ensures order { IfOk result (λ found. AreAscending found.0) }
+    ensures room { IfOk result (λ found. HasRoom found.1) }
 {
     read_base(alloc, body)
 }

@@ -35,17 +35,14 @@ fn judged<'a>(
 fn receipts_are_matched_in_order(rt: HostRuntime) -> Result<(), Fail> {
     let (bytes, root) = of_both(rt.alloc())?;
     let (before, _, _) = values();
-    assert_eq!(rt;
-        judged(rt.alloc(), &bytes, root, 0, before, [b"\x09", b"\x07"])?,
-        Verdict::Accepted(2)
+    assert!(rt;
+        judged(rt.alloc(), &bytes, root, 0, before, [b"\x09", b"\x07"])? == Verdict::Accepted(2)
     );
-    assert_eq!(rt;
-        judged(rt.alloc(), &bytes, root, 0, before, [b"\x07", b"\x07"])?,
-        Verdict::Accepted(1)
+    assert!(rt;
+        judged(rt.alloc(), &bytes, root, 0, before, [b"\x07", b"\x07"])? == Verdict::Accepted(1)
     );
-    assert_eq!(rt;
-        judged(rt.alloc(), &bytes, root, 0, before, [b"\x09", b"\x07\0"])?,
-        Verdict::Disputed(0)
+    assert!(rt;
+        judged(rt.alloc(), &bytes, root, 0, before, [b"\x09", b"\x07\0"])? == Verdict::Disputed(0)
     );
     Ok(())
 }
@@ -55,33 +52,24 @@ fn a_frame_has_to_go_on_from_what_is_kept(rt: HostRuntime) -> Result<(), Fail> {
     let (bytes, root) = of_second(rt.alloc())?;
     let (before, first, second) = values();
     let none: [&[u8]; 2] = [b"", b""];
-    assert_eq!(rt;
-        judged(rt.alloc(), &bytes, root, 0, before, none)?,
-        Verdict::Unlinked
+    assert!(rt; judged(rt.alloc(), &bytes, root, 0, before, none)? == Verdict::Unlinked);
+    assert!(rt; judged(rt.alloc(), &bytes, root, 1, first, none)? == Verdict::Accepted(0));
+    assert!(rt; judged(rt.alloc(), &bytes, root, 2, second, none)? == Verdict::Old);
+    assert!(rt;
+        judged(rt.alloc(), &bytes, root, 2, first, none)?
+            == Verdict::Conflict {
+                seq: 2,
+                kept: first,
+                found: second
+            }
     );
-    assert_eq!(rt;
-        judged(rt.alloc(), &bytes, root, 1, first, none)?,
-        Verdict::Accepted(0)
-    );
-    assert_eq!(rt;
-        judged(rt.alloc(), &bytes, root, 2, second, none)?,
-        Verdict::Old
-    );
-    assert_eq!(rt;
-        judged(rt.alloc(), &bytes, root, 2, first, none)?,
-        Verdict::Conflict {
-            seq: 2,
-            kept: first,
-            found: second
-        }
-    );
-    assert_eq!(rt;
-        judged(rt.alloc(), &bytes, root, 1, second, none)?,
-        Verdict::Conflict {
-            seq: 1,
-            kept: second,
-            found: first
-        }
+    assert!(rt;
+        judged(rt.alloc(), &bytes, root, 1, second, none)?
+            == Verdict::Conflict {
+                seq: 1,
+                kept: second,
+                found: first
+            }
     );
     Ok(())
 }
@@ -92,10 +80,7 @@ fn the_first_line_that_applies(rt: HostRuntime) -> Result<(), Fail> {
     let (before, first, _) = values();
     let none: [&[u8]; 2] = [b"", b""];
     // unlinked, too
-    assert_eq!(rt;
-        judged(rt.alloc(), &bytes, first, 0, before, none)?,
-        Verdict::Unsigned
-    );
+    assert!(rt; judged(rt.alloc(), &bytes, first, 0, before, none)? == Verdict::Unsigned);
     // nothing new, too
     assert!(rt;
         matches!(

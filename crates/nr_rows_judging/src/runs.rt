@@ -62,7 +62,7 @@ fn runs_of(alloc: Global, seen: &[Observation]) -> Result<Vec<Span>, Fail> {
 fn finds_runs(rt: HostRuntime) -> Result<(), Fail> {
     for (seen, spans) in &ROWS {
         let got = runs_of(rt.alloc(), seen)?;
-        assert_eq!(rt; got.as_slice(), *spans);
+        assert!(rt; got.as_slice() == *spans);
     }
     Ok(())
 }
@@ -83,10 +83,7 @@ fn runs_are_by_file_and_promise_and_prefix(rt: HostRuntime) -> Result<(), Fail> 
     let runs = open.close(2).ok().ok_or("memory")?;
     assert_eq!(rt; runs.len(), SORTED.len());
     for (run, (file, promise, addr)) in runs.iter().zip(&SORTED) {
-        assert_eq!(rt;
-            (run.file, run.promise, run.prefix.addr()),
-            (*file, *promise, *addr)
-        );
+        assert!(rt; run.file == *file && run.promise == *promise && run.prefix.addr() == *addr);
     }
     Ok(())
 }

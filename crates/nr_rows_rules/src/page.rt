@@ -1,23 +1,31 @@
 //! The page on promises, `docs/promises.md`: each of its files and formulas is read, typed and printed, and has the
 //! tree that a reader expects.
 
-ghost use Rattle.std.specs.Prelude.{◌≤◌, length};
+ghost use Rattle.std.specs.Prelude.{All};
+ghost use Rattle.nr_rule_syntax.specs.Nesting.{IsNested};
 
 use nr_prefix::Pattern;
-use nr_rule_syntax::{Cmp, Side, parse, print};
-use nr_rule_types::{Typing, Value, Who, check};
-use std::alloc::{AllocError, Global};
+use nr_rule_syntax::{Cmp, File, Side, parse, print};
+use nr_rule_types::{Typed, Typing, Value, Who, check};
+use std::alloc::Global;
 use std::fmt::Write;
-use std::test::Fail;
 
 const MOST: usize = 1_048_576;
 
 // ---- trees in words: a neighbour and a variable by their numbers, `#0` and `v0`
 
+fn put(out: &mut String, text: &str) -> bool {
+    out.push_str(text).is_ok()
+}
+
+fn put_number(out: &mut String, before: &str, number: u32, after: &str) -> bool {
+    write!(out, "{before}{number}{after}").is_ok()
+}
+
 fn side(side: Side) -> &'static str {
     match side {
-        Side::Sent => "sent",
-        Side::Received => "received",
+        Side::Sent => "sent(",
+        Side::Received => "received(",
     }
 }
 
@@ -32,155 +40,146 @@ fn sign(op: Cmp) -> &'static str {
     }
 }
 
-fn put_who(out: &mut String, of: Who) -> Result<(), AllocError> {
-    match of {
-        Who::Var(n) => write!(out, "v{n}"),
-        Who::Named(n) => write!(out, "#{n}"),
-    }
-}
-
-// What a value is read from, and the variable that holds the route.
-fn read_of(term: Value) -> Option<(&'static str, u8)> {
-    match term {
-        Value::Length(n) => Some(("length", n)),
-        Value::Med(n) => Some(("med", n)),
-        Value::Pref(n) => Some(("pref", n)),
-        Value::Origin(n) => Some(("origin", n)),
-        Value::First(n) => Some(("first", n)),
-        Value::Last(n) => Some(("last", n)),
-        Value::Hop(n) => Some(("hop", n)),
-        _ => None,
-    }
-}
-
-fn put_value(out: &mut String, term: Value) -> Result<(), AllocError> {
-    if let Some((name, n)) = read_of(term) {
-        return write!(out, "{name}(v{n})");
-    }
-    match term {
-        Value::Number(n) => write!(out, "{n}"),
-        Value::Asn(of) => {
-            out.push_str("asn(")?;
-            put_who(out, of)?;
-            out.push_str(")")
+fn put_who(out: &mut String, before: &str, of: Who, after: &str) -> bool {
+    put(out, before)
+        && match of {
+            Who::Var(n) => put_number(out, "v", u32::from(n), after),
+            Who::Named(n) => put_number(out, "#", u32::from(n), after),
         }
-        _ => out.push_str("bits"),
+}
+
+fn put_value(out: &mut String, term: Value) -> bool {
+    match term {
+        Value::Number(n) => put_number(out, "", n, ""),
+        Value::Asn(of) => put_who(out, "asn(", of, ")"),
+        Value::Bits => put(out, "bits"),
+        Value::Length(n) => put_number(out, "length(v", u32::from(n), ")"),
+        Value::Med(n) => put_number(out, "med(v", u32::from(n), ")"),
+        Value::Pref(n) => put_number(out, "pref(v", u32::from(n), ")"),
+        Value::Origin(n) => put_number(out, "origin(v", u32::from(n), ")"),
+        Value::First(n) => put_number(out, "first(v", u32::from(n), ")"),
+        Value::Last(n) => put_number(out, "last(v", u32::from(n), ")"),
+        Value::Hop(n) => put_number(out, "hop(v", u32::from(n), ")"),
     }
+}
+
+// The neighbours of a group.
+fn put_members(out: &mut String, members: &[u16]) -> bool {
+    let mut between = "[#";
+    for member in members {
+        if !put_number(out, between, u32::from(*member), "") {
+            return false;
+        }
+        between = " #";
+    }
+    put(out, "] ")
 }
 
 // A quantifier, up to its formula.
-fn put_bound(out: &mut String, word: &str, var: u8, members: &[u16]) -> Result<(), AllocError> {
-    write!(out, "({word} v{var} [")?;
-    let mut between = "";
-    for member in members {
-        write!(out, "{between}#{member}")?;
-        between = " ";
-    }
-    out.push_str("] ")
+fn put_bound(out: &mut String, word: &str, var: u8, members: &[u16]) -> bool {
+    put(out, word) && put_number(out, " v", u32::from(var), " ") && put_members(out, members)
 }
 
-// The patterns of a set, each with its greatest length.
-fn put_set(out: &mut String, patterns: &[Pattern]) -> Result<(), AllocError> {
+// An address, its length, and the greatest length.
+fn put_pattern(out: &mut String, pattern: &Pattern) -> bool {
+    put_number(out, "", pattern.prefix.addr(), "/")
+        && put_number(out, "", u32::from(pattern.prefix.len()), "-")
+        && put_number(out, "", u32::from(pattern.most), "")
+}
+
+// The patterns of a set.
+fn put_set(out: &mut String, patterns: &[Pattern]) -> bool {
     let mut between = "(prefix in [";
-    for Pattern { prefix, most } in patterns {
-        let (addr, len) = (prefix.addr(), prefix.len());
-        write!(out, "{between}{addr}/{len}-{most}")?;
+    for pattern in patterns {
+        if !put(out, between) || !put_pattern(out, pattern) {
+            return false;
+        }
         between = " ";
     }
-    out.push_str("])")
+    put(out, "])")
 }
 
-fn put_stands(out: &mut String, way: Side, of: Who) -> Result<(), AllocError> {
-    out.push_str(side(way))?;
-    out.push_str("(")?;
-    put_who(out, of)?;
-    out.push_str(")")
+fn put_compared(out: &mut String, left: Value, op: Cmp, right: Value) -> bool {
+    put(out, "(")
+        && put_value(out, left)
+        && put(out, sign(op))
+        && put_value(out, right)
+        && put(out, ")")
 }
 
-// Two values or two neighbours, with what stands between them.
-fn put_two(out: &mut String, left: Value, between: &str, right: Value) -> Result<(), AllocError> {
-    out.push_str("(")?;
-    put_value(out, left)?;
-    out.push_str(between)?;
-    put_value(out, right)?;
-    out.push_str(")")
+fn put_crosses(out: &mut String, route: u8, term: Value) -> bool {
+    put_number(out, "(v", u32::from(route), " crosses ") && put_value(out, term) && put(out, ")")
 }
 
-fn put_is(out: &mut String, left: Who, right: Who) -> Result<(), AllocError> {
-    out.push_str("(")?;
-    put_who(out, left)?;
-    out.push_str(" is ")?;
-    put_who(out, right)?;
-    out.push_str(")")
-}
-
-fn put_crosses(out: &mut String, route: u8, term: Value) -> Result<(), AllocError> {
-    write!(out, "(v{route} crosses ")?;
-    put_value(out, term)?;
-    out.push_str(")")
+fn put_has(out: &mut String, route: u8, community: u32) -> bool {
+    put_number(out, "(v", u32::from(route), " has ") && put_number(out, "", community, ")")
 }
 
 // A formula that holds no other.
-fn put_atom(out: &mut String, form: &Typing) -> Result<(), AllocError> {
+fn put_atom(out: &mut String, form: &Typing) -> bool {
     match form {
-        Typing::True => out.push_str("true"),
-        Typing::Stands { side: way, of } => put_stands(out, *way, *of),
-        Typing::Has { route, community } => write!(out, "(v{route} has {community})"),
+        Typing::True => put(out, "true"),
+        Typing::Stands { side: way, of } => put_who(out, side(*way), *of, ")"),
+        Typing::Has { route, community } => put_has(out, *route, *community),
         Typing::Crosses { route, term } => put_crosses(out, *route, *term),
-        Typing::Is { left, right } => put_is(out, *left, *right),
+        Typing::Is { left, right } => {
+            put_who(out, "(", *left, " is ") && put_who(out, "", *right, ")")
+        }
         Typing::PrefixIn { set } => put_set(out, set.as_slice()),
-        Typing::Compare { left, op, right } => put_two(out, *left, sign(*op), *right),
-        _ => out.push_str("false"),
+        Typing::Compare { left, op, right } => put_compared(out, *left, *op, *right),
+        _ => put(out, "false"),
     }
 }
 
-// A word, and formulas behind it.
+// Formulas, each after a blank, and the end of what they stand in.
 #[cycle(tree)]
-fn put_all(out: &mut String, word: &str, forms: &[Typing]) -> Result<(), AllocError> {
-    out.push_str(word)?;
+fn put_all(out: &mut String, forms: &[Typing]) -> bool {
     for form in forms {
-        out.push_str(" ")?;
-        put_tree(out, form)?;
+        if !put(out, " ") || !put_tree(out, form) {
+            return false;
+        }
     }
-    out.push_str(")")
+    put(out, ")")
+}
+
+// A formula, and a blank.
+#[cycle(tree)]
+fn put_first(out: &mut String, form: &Typing) -> bool {
+    put_tree(out, form) && put(out, " ")
+}
+
+// A formula, and the end of what it stands in.
+#[cycle(tree)]
+fn put_last(out: &mut String, form: &Typing) -> bool {
+    put_tree(out, form) && put(out, ")")
 }
 
 #[cycle(tree)]
-fn put_next(out: &mut String, before: &str, form: &Typing, after: &str) -> Result<(), AllocError> {
-    out.push_str(before)?;
-    put_tree(out, form)?;
-    out.push_str(after)
-}
-
-#[cycle(tree)]
-fn put_tree(out: &mut String, form: &Typing) -> Result<(), AllocError> {
+fn put_tree(out: &mut String, form: &Typing) -> bool {
     match form {
-        Typing::Not(form) => put_next(out, "(not ", form.get(), ")"),
-        Typing::And(forms) => put_all(out, "(and", forms.as_slice()),
-        Typing::Or(forms) => put_all(out, "(or", forms.as_slice()),
+        Typing::Not(form) => put(out, "(not ") && put_last(out, form.get()),
+        Typing::And(forms) => put(out, "(and") && put_all(out, forms.as_slice()),
+        Typing::Or(forms) => put(out, "(or") && put_all(out, forms.as_slice()),
         Typing::Implies(left, right) => {
-            put_next(out, "(implies ", left.get(), " ")?;
-            put_next(out, "", right.get(), ")")
+            put(out, "(implies ") && put_first(out, left.get()) && put_last(out, right.get())
         }
         Typing::All { var, group, form } => {
-            put_bound(out, "all", *var, group.as_slice())?;
-            put_next(out, "", form.get(), ")")
+            put_bound(out, "(all", *var, group.as_slice()) && put_last(out, form.get())
         }
         Typing::Some { var, group, form } => {
-            put_bound(out, "some", *var, group.as_slice())?;
-            put_next(out, "", form.get(), ")")
+            put_bound(out, "(some", *var, group.as_slice()) && put_last(out, form.get())
         }
         Typing::If {
             var,
-            side,
+            side: way,
             of,
             yes,
             no,
         } => {
-            write!(out, "(if v{var} ")?;
-            put_stands(out, *side, *of)?;
-            put_next(out, " ", yes.get(), " ")?;
-            put_next(out, "", no.get(), ")")
+            put_number(out, "(if v", u32::from(*var), " ")
+                && put_who(out, side(*way), *of, ") ")
+                && put_first(out, yes.get())
+                && put_last(out, no.get())
         }
         _ => put_atom(out, form),
     }
@@ -188,19 +187,36 @@ fn put_tree(out: &mut String, form: &Typing) -> Result<(), AllocError> {
 
 // ---- files and formulas
 
-// What is printed for a text, and the tree of its first promise.
-fn told(alloc: Global, text: &[u8]) -> Result<(Vec<u8>, String), Fail>
-    requires { length text.now ≤ 1048576 }
+// Whether the first promise has this tree.
+fn has_tree(alloc: Global, says: &Typed, tree: &str) -> bool {
+    let mut out = String::new(alloc);
+    match says.promises().first() {
+        Some(promise) => put_tree(&mut out, &promise.form) && out.as_str() == tree,
+        None => false,
+    }
+}
+
+fn prints(alloc: Global, file: &File, want: &[u8]) -> bool
+    requires { All IsNested file.now.decls }
 {
+    match print(alloc, file) {
+        Ok(text) => text.as_slice() == want,
+        Err(_) => false,
+    }
+}
+
+// Whether this is printed for a text, and its first promise has this tree.
+fn says(alloc: Global, text: &[u8], printed: &[u8], tree: &str) -> bool {
+    if MOST < text.len() {
+        return false;
+    }
     let Ok(file) = parse(alloc, text) else {
-        return Err("refused by the grammar".into());
+        return false;
     };
-    let printed = print(alloc, &file).ok().ok_or("no memory")?;
-    let says = check(alloc, &file).ok().ok_or("refused by the typing")?;
-    let promise = says.promises().first().ok_or("no promise")?;
-    let mut tree = String::new(alloc);
-    put_tree(&mut tree, &promise.form)?;
-    Ok((printed, tree))
+    match check(alloc, &file) {
+        Ok(says) => has_tree(alloc, &says, tree) && prints(alloc, &file, printed),
+        Err(_) => false,
+    }
 }
 
 // A file, the one text that is printed for it, and the tree of its promise.
@@ -324,14 +340,13 @@ promise short grace 0 { all n in peers { if r = sent(n) then length(r) <= 3 and 
 ];
 
 #[test]
-fn files_have_their_trees(rt: HostRuntime) -> Result<(), Fail> {
+fn files_have_their_trees(rt: HostRuntime) {
     for (text, printed, tree) in &FILES {
-        assert!(rt; text.len() <= MOST);
-        let (got, has) = told(rt.alloc(), text.as_bytes())?;
-        assert_eq!(rt; has.as_str(), *tree);
-        assert!(rt; got.as_slice() == printed.as_bytes(), "{text}");
+        assert!(rt;
+            says(rt.alloc(), text.as_bytes(), printed.as_bytes(), tree),
+            "{text}"
+        );
     }
-    Ok(())
 }
 
 // What stands before a formula, and after it.
@@ -451,16 +466,32 @@ const FORMULAS: [(&str, &str); 28] = [
     ),
 ];
 
-#[test]
-fn formulas_have_their_trees(rt: HostRuntime) -> Result<(), Fail> {
-    for (formula, tree) in &FORMULAS {
-        let text = format!(in rt.alloc(); "{BEFORE}{formula}{AFTER}")?;
-        assert!(rt; text.len() <= MOST);
-        let (got, has) = told(rt.alloc(), text.as_bytes())?;
-        assert_eq!(rt; has.as_str(), *tree);
-        assert!(rt; got.as_slice() == text.as_bytes(), "{text}");
+// The file of a formula.
+fn file_of(alloc: Global, formula: &str) -> Option<String> {
+    let mut text = String::new(alloc);
+    if put(&mut text, BEFORE) && put(&mut text, formula) && put(&mut text, AFTER) {
+        Some(text)
+    } else {
+        None
     }
-    Ok(())
+}
+
+// Whether one formula is printed for another, and has this tree.
+fn formula_says(alloc: Global, formula: &str, printed: &str, tree: &str) -> bool {
+    match (file_of(alloc, formula), file_of(alloc, printed)) {
+        (Some(text), Some(want)) => says(alloc, text.as_bytes(), want.as_bytes(), tree),
+        _ => false,
+    }
+}
+
+#[test]
+fn formulas_have_their_trees(rt: HostRuntime) {
+    for (formula, tree) in &FORMULAS {
+        assert!(rt;
+            formula_says(rt.alloc(), formula, formula, tree),
+            "{formula}"
+        );
+    }
 }
 
 // An address is a number, and is printed as one.
@@ -468,46 +499,62 @@ const ADDRESS: &str = "if r = sent(peer_a) then hop(r) = 192.0.2.1 else true end
 
 const NUMBER: &str = "if r = sent(peer_a) then hop(r) = 3221225985 else true end";
 
+const ADDRESS_TREE: &str = "(if v0 sent(#1) (hop(v0) = 3221225985) true)";
+
 #[test]
-fn an_address_is_printed_as_a_number(rt: HostRuntime) -> Result<(), Fail> {
-    let text = format!(in rt.alloc(); "{BEFORE}{ADDRESS}{AFTER}")?;
-    let want = format!(in rt.alloc(); "{BEFORE}{NUMBER}{AFTER}")?;
-    assert!(rt; text.len() <= MOST);
-    let (got, _) = told(rt.alloc(), text.as_bytes())?;
-    assert!(rt; got.as_slice() == want.as_bytes());
-    Ok(())
+fn an_address_is_printed_as_a_number(rt: HostRuntime) {
+    assert!(rt; formula_says(rt.alloc(), ADDRESS, NUMBER, ADDRESS_TREE));
 }
 
 // ---- a file of nearly the greatest size
 
 const MEMBERS: usize = 131_066;
 
-// A promise that is one long `or`. It is its own canonical text.
-fn long(alloc: Global) -> Result<String, Fail> {
-    let mut text = String::from_str(
-        alloc,
-        "network 64500;\ncommit 60;\npromise t grace 0 { true",
-    )?;
-    for _ in 1..MEMBERS {
-        text.push_str(" or true")?;
+fn put_times(out: &mut String, count: usize, piece: &str) -> bool {
+    for _ in 0..count {
+        if !put(out, piece) {
+            return false;
+        }
     }
-    text.push_str(AFTER)?;
-    Ok(text)
+    true
+}
+
+// A promise that is one long `or` of so many members. It is its own canonical text.
+fn put_long(out: &mut String, members: usize) -> bool {
+    put(out, "network 64500;\ncommit 60;\npromise t grace 0 { true")
+        && put_times(out, members.saturating_sub(1), " or true")
+        && put(out, AFTER)
+}
+
+fn has_members(says: &Typed, members: usize) -> bool {
+    match says.promises().first() {
+        Some(promise) => matches!(&promise.form, Typing::Or(forms) if forms.len() == members),
+        None => false,
+    }
+}
+
+// Whether a text is its own canonical text, and its first promise has so many members.
+fn is_long(alloc: Global, text: &[u8], members: usize) -> bool {
+    if MOST < text.len() {
+        return false;
+    }
+    let Ok(file) = parse(alloc, text) else {
+        return false;
+    };
+    match check(alloc, &file) {
+        Ok(says) => has_members(&says, members) && prints(alloc, &file, text),
+        Err(_) => false,
+    }
+}
+
+fn reads_long(alloc: Global, members: usize) -> bool {
+    let mut text = String::new(alloc);
+    put_long(&mut text, members)
+        && MOST.saturating_sub(8) < text.len()
+        && is_long(alloc, text.as_bytes(), members)
 }
 
 #[test]
-fn a_long_file_is_read_and_printed(rt: HostRuntime) -> Result<(), Fail> {
-    let text = long(rt.alloc())?;
-    assert!(rt; text.len() <= MOST && MOST - 8 < text.len());
-    let Ok(file) = parse(rt.alloc(), text.as_bytes()) else {
-        return Err("refused by the grammar".into());
-    };
-    let printed = print(rt.alloc(), &file).ok().ok_or("no memory")?;
-    assert!(rt; printed.as_slice() == text.as_bytes());
-    let says = check(rt.alloc(), &file)
-        .ok()
-        .ok_or("refused by the typing")?;
-    let promise = says.promises().first().ok_or("no promise")?;
-    assert!(rt; matches!(&promise.form, Typing::Or(members) if members.len() == MEMBERS));
-    Ok(())
+fn a_long_file_is_read_and_printed(rt: HostRuntime) {
+    assert!(rt; reads_long(rt.alloc(), MEMBERS));
 }

@@ -5,7 +5,6 @@ ghost use Rattle.std.specs.Prelude.{◌≤◌, length};
 use nr_bytes::Place;
 use nr_rule_syntax::{ParseError, parse, print};
 use std::alloc::Global;
-use std::test::Fail;
 
 const MOST: usize = 1_048_576;
 
@@ -153,12 +152,20 @@ const PRINTED: [(&[u8], &[u8]); 35] = [
     ),
 ];
 
+fn prints(alloc: Global, text: &[u8], want: &[u8]) -> bool {
+    if MOST < text.len() {
+        return false;
+    }
+    match printed(alloc, text) {
+        Ok(got) => got.as_slice() == want,
+        Err(_) => false,
+    }
+}
+
 #[test]
 fn prints_one_text(rt: HostRuntime) {
-    for (text, want) in &PRINTED {
-        assert!(rt; text.len() <= MOST);
-        let got = printed(rt.alloc(), text);
-        assert_eq!(rt; got.as_deref().ok(), Some(*want));
+    for (number, (text, want)) in PRINTED.iter().enumerate() {
+        assert!(rt; prints(rt.alloc(), text, want), "{number}");
     }
 }
 
@@ -238,11 +245,15 @@ const REFUSED: [(&[u8], u64); 58] = [
     (b"promise t grace 0 { 1 = 2 = 3 }", 26),
 ];
 
+// Whether a text is refused at a place, or not at all.
+fn is_refused(alloc: Global, text: &[u8], want: Option<u64>) -> bool {
+    MOST >= text.len() && printed(alloc, text).err() == want
+}
+
 #[test]
 fn refuses_at_the_first_token(rt: HostRuntime) {
-    for (text, place) in &REFUSED {
-        assert!(rt; text.len() <= MOST);
-        assert_eq!(rt; printed(rt.alloc(), text).err(), Some(*place));
+    for (number, (text, place)) in REFUSED.iter().enumerate() {
+        assert!(rt; is_refused(rt.alloc(), text, Some(*place)), "{number}");
     }
 }
 
@@ -256,28 +267,37 @@ const LEVELS: [(&[u8], &[u8], u64); 6] = [
     (b"if r = sent(n) then ", b" else true end", 1300),
 ];
 
+fn put_times(out: &mut Vec<u8>, count: usize, piece: &[u8]) -> bool {
+    for _ in 0..count {
+        if out.extend_from_slice(piece).is_err() {
+            return false;
+        }
+    }
+    true
+}
+
 // A promise with so many levels.
-fn nested(alloc: Global, open: &[u8], close: &[u8], levels: usize) -> Result<Vec<u8>, Fail> {
-    let mut text = Vec::from_slice(alloc, b"promise t grace 0 { ")?;
-    for _ in 0..levels {
-        text.extend_from_slice(open)?;
-    }
-    text.extend_from_slice(b"true")?;
-    for _ in 0..levels {
-        text.extend_from_slice(close)?;
-    }
-    text.extend_from_slice(b" }")?;
-    Ok(text)
+fn put_nested(text: &mut Vec<u8>, open: &[u8], close: &[u8], levels: usize) -> bool {
+    put_times(text, 1, b"promise t grace 0 { ")
+        && put_times(text, levels, open)
+        && put_times(text, 1, b"true")
+        && put_times(text, levels, close)
+        && put_times(text, 1, b" }")
+}
+
+// Whether so many levels are refused at a place, or not at all.
+fn opens(alloc: Global, open: &[u8], close: &[u8], levels: usize, want: Option<u64>) -> bool {
+    let mut text = Vec::new(alloc);
+    put_nested(&mut text, open, close, levels) && is_refused(alloc, &text, want)
 }
 
 #[test]
-fn opens_64_levels(rt: HostRuntime) -> Result<(), Fail> {
-    for (open, close, place) in &LEVELS {
-        for (levels, want) in [(64, None), (65, Some(*place))] {
-            let text = nested(rt.alloc(), open, close, levels)?;
-            assert!(rt; text.len() <= MOST);
-            assert_eq!(rt; printed(rt.alloc(), &text).err(), want);
-        }
+fn opens_64_levels(rt: HostRuntime) {
+    for (number, (open, close, place)) in LEVELS.iter().enumerate() {
+        assert!(rt; opens(rt.alloc(), open, close, 64, None), "{number}");
+        assert!(rt;
+            opens(rt.alloc(), open, close, 65, Some(*place)),
+            "{number}"
+        );
     }
-    Ok(())
 }

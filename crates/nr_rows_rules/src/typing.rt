@@ -5,10 +5,9 @@ ghost use Rattle.std.specs.Prelude.{◌≤◌, length};
 use nr_bytes::Place;
 use nr_prefix::Prefix;
 use nr_rule_syntax::parse;
-use nr_rule_types::{TypeError, Typed, Typing, Value, Who, check};
+use nr_rule_types::{Neighbour, Promise, TypeError, Typed, Typing, Value, Who, check};
 use std::alloc::Global;
-use std::process::Abort;
-use std::test::Fail;
+use std::fmt::Write;
 
 const MOST: usize = 1_048_576;
 
@@ -302,34 +301,43 @@ fn typed(alloc: Global, text: &[u8]) -> Result<Typed, u64>
     }
 }
 
-// The place of a text's first fault.
-fn fault_in(rt: &impl Abort, alloc: Global, text: &[u8]) -> Option<u64> {
-    assert!(rt; text.len() <= MOST);
-    typed(alloc, text).err()
+// Whether a text's first fault stands at this place, or it has none.
+fn has_fault(alloc: Global, text: &[u8], place: Option<u64>) -> bool {
+    MOST >= text.len() && typed(alloc, text).err() == place
 }
 
 // The base with a text after it.
-fn after_base(alloc: Global, text: &[u8]) -> Result<Vec<u8>, Fail> {
-    let mut whole = Vec::from_slice(alloc, BASE)?;
-    whole.extend_from_slice(text)?;
-    Ok(whole)
+fn after_base(alloc: Global, text: &[u8]) -> Option<Vec<u8>> {
+    let mut whole = Vec::from_slice(alloc, BASE).ok()?;
+    whole.extend_from_slice(text).ok()?;
+    Some(whole)
+}
+
+fn has_fault_after_base(alloc: Global, text: &[u8], place: Option<u64>) -> bool {
+    match after_base(alloc, text) {
+        Some(whole) => has_fault(alloc, &whole, place),
+        None => false,
+    }
 }
 
 #[test]
-fn finds_the_first_fault(rt: HostRuntime) -> Result<(), Fail> {
-    for (text, place) in &TEXTS {
-        assert_eq!(rt; (*text, fault_in(&rt, rt.alloc(), text)), (*text, *place));
+fn finds_the_first_fault(rt: HostRuntime) {
+    for (number, (text, place)) in TEXTS.iter().enumerate() {
+        assert!(rt; has_fault(rt.alloc(), text, *place), "text {number}");
     }
-    for (text, place) in &PROMISES {
-        let whole = after_base(rt.alloc(), text)?;
-        assert_eq!(rt; (*text, fault_in(&rt, rt.alloc(), &whole)), (*text, *place));
+    for (number, (text, place)) in PROMISES.iter().enumerate() {
+        assert!(rt;
+            has_fault_after_base(rt.alloc(), text, *place),
+            "promise {number}"
+        );
     }
-    Ok(())
 }
 
 // The most of a declaration, what a text of these begins with, and of each of them the text before, between and after
 // two numbers.
-const COUNTS: [(u64, &str, &str, &str, &str); 4] = [
+type Count = (u64, &'static str, &'static str, &'static str, &'static str);
+
+const COUNTS: [Count; 4] = [
     (
         64,
         "neighbour n as 1 at 0.0.0.0; ",
@@ -342,92 +350,159 @@ const COUNTS: [(u64, &str, &str, &str, &str); 4] = [
     (256, "", "neighbour x", " as ", " at 0.0.0.0; "),
 ];
 
-// A text of so many declarations, and the place of the last one's name.
-fn counted(
-    alloc: Global,
-    count: u64,
-    row: &(u64, &str, &str, &str, &str),
-) -> Result<(String, u64), Fail> {
-    let (_, front, before, between, after) = row;
-    let mut text = format!(in alloc; "network 1; commit 1; {front}")?;
+fn put(out: &mut String, text: &str) -> bool {
+    out.push_str(text).is_ok()
+}
+
+fn put_declaration(out: &mut String, number: u64, row: &Count) -> bool {
+    let (_, _, before, between, after) = *row;
+    write!(out, "{before}{number}{between}{number}{after}").is_ok()
+}
+
+// The place after so many bytes more, and one less.
+fn name_place(text: &str, before: &str) -> u64 {
+    text.len().saturating_add(before.len()).saturating_sub(1) as u64
+}
+
+// Puts so many declarations, and says the place of the last one's name.
+fn put_counted(text: &mut String, count: u64, row: &Count) -> Option<u64> {
     let mut last = 0;
     for number in 0..count {
-        last = (text.len() + before.len()).saturating_sub(1);
-        text.push_str(&format!(in alloc; "{before}{number}{between}{number}{after}")?)?;
+        last = name_place(text, row.2);
+        if !put_declaration(text, number, row) {
+            return None;
+        }
     }
-    Ok((text, last as u64))
+    Some(last)
+}
+
+// Whether so many declarations have no fault, or where they are one too many, one at the last one's name.
+fn counts(alloc: Global, count: u64, row: &Count) -> bool {
+    let mut text = String::new(alloc);
+    if !put(&mut text, "network 1; commit 1; ") || !put(&mut text, row.1) {
+        return false;
+    }
+    match put_counted(&mut text, count, row) {
+        Some(last) => {
+            has_fault(
+                alloc,
+                text.as_bytes(),
+                if row.0 < count { Some(last) } else { None },
+            )
+        }
+        None => false,
+    }
 }
 
 #[test]
-fn counts_declarations(rt: HostRuntime) -> Result<(), Fail> {
+fn counts_declarations(rt: HostRuntime) {
     for row in &COUNTS {
-        let (text, _) = counted(rt.alloc(), row.0, row)?;
-        assert_eq!(rt; fault_in(&rt, rt.alloc(), text.as_bytes()), None, "{text}");
-        let (text, place) = counted(rt.alloc(), row.0 + 1, row)?;
-        assert_eq!(rt;
-            fault_in(&rt, rt.alloc(), text.as_bytes()),
-            Some(place),
-            "{text}"
-        );
+        assert!(rt; counts(rt.alloc(), row.0, row));
+        assert!(rt; counts(rt.alloc(), row.0 + 1, row));
     }
-    Ok(())
 }
 
-// A promise at so many prefixes, and the place of the last of them.
-fn at_prefixes(alloc: Global, count: u32) -> Result<(String, u64), Fail> {
-    let mut text = String::from_str(
-        alloc,
-        "network 1; commit 1; promise t grace 0 at 10.0.0.0/8",
-    )?;
+fn put_prefixes(text: &mut String, count: u32) -> bool {
     for _ in 1..count {
-        text.push_str(", 10.0.0.0/8")?;
+        if !put(text, ", 10.0.0.0/8") {
+            return false;
+        }
     }
-    let last = text.len().saturating_sub(10);
-    text.push_str(" { true }")?;
-    Ok((text, last as u64))
+    true
+}
+
+// Whether a promise at so many prefixes has no fault, or where that's wanted one at the last of them.
+fn counts_prefixes_to(alloc: Global, count: u32, faulty: bool) -> bool {
+    let mut text = String::new(alloc);
+    if !put(
+        &mut text,
+        "network 1; commit 1; promise t grace 0 at 10.0.0.0/8",
+    ) || !put_prefixes(&mut text, count)
+    {
+        return false;
+    }
+    let last = text.len().saturating_sub(10) as u64;
+    put(&mut text, " { true }")
+        && has_fault(
+            alloc,
+            text.as_bytes(),
+            if faulty { Some(last) } else { None },
+        )
 }
 
 #[test]
-fn counts_prefixes(rt: HostRuntime) -> Result<(), Fail> {
-    let (text, _) = at_prefixes(rt.alloc(), 1024)?;
-    assert_eq!(rt; fault_in(&rt, rt.alloc(), text.as_bytes()), None);
-    let (text, place) = at_prefixes(rt.alloc(), 1025)?;
-    assert_eq!(rt; fault_in(&rt, rt.alloc(), text.as_bytes()), Some(place));
-    Ok(())
+fn counts_prefixes(rt: HostRuntime) {
+    assert!(rt; counts_prefixes_to(rt.alloc(), 1024, false));
+    assert!(rt; counts_prefixes_to(rt.alloc(), 1025, true));
 }
 
 const DECLARED: &[u8] = b"promise t grace 5 at 10.0.0.0/8 { all n in peers { asn(q) = 7 } }";
+
+// Whether a formula says that q's AS is 7 for each of the two neighbours.
+fn is_seven(form: &Typing) -> bool {
+    matches!(
+        form,
+        Typing::Compare {
+            left: Value::Asn(Who::Named(1)),
+            right: Value::Number(7),
+            ..
+        }
+    )
+}
+
+fn is_form(form: &Typing) -> bool {
+    match form {
+        Typing::All { var, group, form } => {
+            *var == 0 && group.as_slice() == [0, 1].as_slice() && is_seven(form.get())
+        }
+        _ => false,
+    }
+}
+
+fn is_neighbour(neighbour: &Neighbour, name: &[u8], asn: u32, addr: u32) -> bool {
+    neighbour.name.bytes() == name && neighbour.asn == asn && neighbour.addr == addr
+}
+
+fn is_promise(promise: &Promise) -> bool {
+    promise.name.bytes() == b"t".as_slice()
+        && promise.grace == 5
+        && promise.at.as_slice().first().copied() == Prefix::new(0x0a00_0000, 8)
+        && is_form(&promise.form)
+}
 
 // Whether a text that was typed says the base and this promise.
 fn is_declared(text: &Typed) -> bool {
     let ([p, q], [t]) = (text.neighbours(), text.promises()) else {
         return false;
     };
-    let Typing::All { var, group, form } = &t.form else {
+    text.network() == 64500
+        && text.commit() == 60
+        && is_neighbour(p, b"p", 64501, 0xc000_0201)
+        && is_neighbour(q, b"q", 64502, 0xc000_0202)
+        && is_promise(t)
+}
+
+fn copy_is_declared(alloc: Global, text: &Typed) -> bool {
+    match text.copy(alloc) {
+        Ok(copy) => is_declared(&copy),
+        Err(_) => false,
+    }
+}
+
+fn declares(alloc: Global) -> bool {
+    let Some(text) = after_base(alloc, DECLARED) else {
         return false;
     };
-    (text.network(), text.commit()) == (64500, 60)
-        && (p.name.bytes(), p.asn, p.addr) == (b"p".as_slice(), 64501, 0xc000_0201)
-        && (q.name.bytes(), q.asn, q.addr) == (b"q".as_slice(), 64502, 0xc000_0202)
-        && (t.name.bytes(), t.grace) == (b"t".as_slice(), 5)
-        && t.at.as_slice().first().copied() == Prefix::new(0x0a00_0000, 8)
-        && (*var, group.as_slice()) == (0, [0, 1].as_slice())
-        && matches!(
-            form.get(),
-            Typing::Compare {
-                left: Value::Asn(Who::Named(1)),
-                right: Value::Number(7),
-                ..
-            }
-        )
+    if MOST < text.len() {
+        return false;
+    }
+    match typed(alloc, &text) {
+        Ok(first) => is_declared(&first) && copy_is_declared(alloc, &first),
+        Err(_) => false,
+    }
 }
 
 #[test]
-fn says_what_is_declared(rt: HostRuntime) -> Result<(), Fail> {
-    let text = after_base(rt.alloc(), DECLARED)?;
-    assert!(rt; text.len() <= MOST);
-    let first = typed(rt.alloc(), &text).ok().ok_or("refused")?;
-    assert!(rt; is_declared(&first));
-    assert!(rt; is_declared(&first.copy(rt.alloc()).ok().ok_or("memory")?));
-    Ok(())
+fn says_what_is_declared(rt: HostRuntime) {
+    assert!(rt; declares(rt.alloc()));
 }

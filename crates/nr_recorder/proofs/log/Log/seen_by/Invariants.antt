@@ -1,4 +1,4 @@
-use Rattle.std.proofs.Common.{◌≡◌, ◌≤◌, drop, map, take}
+use Rattle.std.proofs.Common.{◌≡◌, drop, map, take}
 use Rattle.nr_spec_frames.specs.Showing.{seen_by}
 use Rattle.nr_exchange.specs.Views.{frame_item_of}
 use Rattle.nr_recorder.proofs.log.Log.seen_by.Given as goal

@@ -1,4 +1,4 @@
-use Rattle.std.proofs.Common.{◌≡◌, ◌<◌, ◌≤◌, ◌∙◌, ◌+◌, ℕ, List, ap, drop, length, map, refl, subst, sym, take, arith}
+use Rattle.std.proofs.Common.{◌≡◌, ◌<◌, ◌∙◌, ◌+◌, List, ap, drop, length, map, refl, subst, sym, take, arith}
 use Rattle.std.proofs.lemmas.List.{length-map}
 use Rattle.nr_chain.specs.declared.digest.Digest.{Digest}
 use Rattle.nr_exchange.specs.Views.{frame_item_of}

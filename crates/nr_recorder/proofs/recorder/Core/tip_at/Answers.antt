@@ -1,4 +1,4 @@
-use Rattle.std.proofs.Common.{◌≡◌, ◌∙◌, ℕ, ◌-◌, List, ap, refl, subst, sym, take}
+use Rattle.std.proofs.Common.{◌≡◌, ◌∙◌, ◌-◌, List, ap, refl, subst, sym, take}
 use Rattle.std.specs.List.{slice_get}
 use Rattle.nr_chain.specs.Views.{entry_of}
 use Rattle.nr_spec_log.specs.Chain.{LogEntry, value_after}

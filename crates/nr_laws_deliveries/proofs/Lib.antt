@@ -1,2 +1,0 @@
-mod Acked
-mod Shown
