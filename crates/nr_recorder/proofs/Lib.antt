@@ -1,10 +1,8 @@
 pub mod Asked
 pub mod Booking
 pub mod Commits
-pub mod Linking
 pub mod Listing
 pub mod Passing
-pub mod Shown
 pub mod Steps
 pub mod Tips
 pub mod Waiting
