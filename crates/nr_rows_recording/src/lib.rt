@@ -4,3 +4,5 @@
 
 #[cfg(test)]
 mod recordings;
+#[cfg(test)]
+mod tapes;
