@@ -1,6 +1,7 @@
 //! `netreview` audits accountable logs of the BGP messages of a network.
 #![tactic(auto)]
 
+mod advise;
 #[cfg(test)]
 mod audit_tests;
 #[cfg(test)]
@@ -27,7 +28,9 @@ mod samples;
 #[cfg(test)]
 mod wrong_tests;
 
-use nr_system::{Access, NoWords, Output, SystemFiles, words};
+use advise::advise;
+use nr_advice::Ended;
+use nr_system::{Access, Kept, NoWords, Output, SystemFiles, words};
 use run::run;
 use std::io;
 use std::process::ExitCode;
@@ -45,14 +48,29 @@ fn access_of(words: &[String]) -> Access {
 
 fn run_words(rt: &HostRuntime, words: &[String]) -> u8 {
     let mut files = SystemFiles::new(rt, rt.alloc(), access_of(words));
-    let mut out = Output::new(io::writer(rt));
-    run(rt.alloc(), words, &mut files, &mut out)
+    let mut out = Kept::new(Output::new(io::writer(rt)));
+    let status = run(rt.alloc(), words, &mut files, &mut out);
+    let ended = Ended {
+        words,
+        status,
+        text: out.first(),
+    };
+    advise(rt, &ended, files.cause());
+    status
 }
 
 fn main(rt: HostRuntime) -> ExitCode {
     let status = match words(&rt) {
         Ok(words) => run_words(&rt, words.as_slice()),
-        Err(NoWords::Memory | NoWords::System) => NO_WORDS,
+        Err(NoWords::Memory | NoWords::System) => {
+            let ended = Ended {
+                words: &[],
+                status: NO_WORDS,
+                text: &[],
+            };
+            advise(&rt, &ended, None);
+            NO_WORDS
+        }
     };
     ExitCode::from(status)
 }

@@ -9,7 +9,7 @@ use crate::commands::{CommandRow, command_of, put_synopsis};
 use crate::line::named_in;
 use crate::page::Page;
 use crate::sentences::{Sentence, put_sentence, sentence_of};
-use crate::showing::{FORMS, put_place};
+use crate::showing::FORMS;
 use crate::words::{file_named, put_faults};
 use std::alloc::{AllocError, Global};
 
@@ -21,8 +21,11 @@ pub struct Ended<'a> {
     pub text: &'a [u8],
 }
 
-// The system adds its number to what it says of an error.
+// What the system says of an error, without its number. What isn't a regular file the program refuses by itself.
 fn without_number(cause: &str) -> &str {
+    if cause == "invalid input parameter" {
+        return "not a regular file";
+    }
     match cause.split_once(" (os error ") {
         Some((cause, _)) => cause,
         None => cause,
@@ -52,12 +55,6 @@ fn put_words(page: &mut Page, commands: &[CommandRow], words: &[String]) -> Resu
             page.text(" is no command.\n")
         }
     }
-}
-
-/// The name of the file that the line of a run names.
-pub fn name_of<'a>(ended: &Ended<'a>) -> Option<&'a str> {
-    let named = named_in(ended.text)?;
-    file_named(ended.words, named.file)
 }
 
 // The name of the file that a line names, and the place in it.
@@ -95,17 +92,6 @@ fn put_forms(page: &mut Page, ended: &Ended<'_>) -> Result<(), AllocError> {
     }
 }
 
-/// Adds where the mistake of a promise file stands.
-pub fn put_mistake(
-    page: &mut Page,
-    alloc: Global,
-    name: &str,
-    bytes: &[u8],
-    offset: u64,
-) -> Result<(), AllocError> {
-    put_place(page, alloc, name, bytes, offset)
-}
-
 fn put_known(page: &mut Page, sentences: &[Sentence], ended: &Ended<'_>) -> Result<(), AllocError>
     ensures { IfSome (sentence_for sentences.now ended.now.status ended.now.text.now)
         (λ row. OnOk result (page.new ≡ page.old ++ sentence_text row)) }
@@ -131,6 +117,7 @@ pub fn put_advice(
 {
     if ended.status == 2 {
         put_words(page, commands, ended.words)?;
+        put_known(page, sentences, ended)?;
         return put_synopsis(page, commands);
     }
     put_name(page, alloc, ended)?;

@@ -143,6 +143,31 @@ pub const COMMANDS: &[CommandRow] = &[
         does: "writes the answer of a whole log for an auditor, signed",
     },
     CommandRow {
+        name: "collect",
+        options: &[
+            OptionRow {
+                name: "frames",
+                value: "FILE",
+                kind: Kind::File,
+                required: true,
+            },
+            OptionRow {
+                name: "as",
+                value: "N",
+                kind: Kind::Asn,
+                required: true,
+            },
+            OptionRow {
+                name: "out",
+                value: "FILE",
+                kind: Kind::File,
+                required: true,
+            },
+        ],
+        files: "",
+        does: "takes the signed heads of a network out of frames that it sent, for audits",
+    },
+    CommandRow {
         name: "audit",
         options: &[
             OptionRow {

@@ -11,10 +11,11 @@ mod sentences;
 mod showing;
 mod words;
 
-pub use advice::{Ended, name_of, promise_mistake, put_advice, put_cause, put_mistake};
+pub use advice::{Ended, promise_mistake, put_advice, put_cause};
 pub use commands::{COMMANDS, CommandRow, Kind, OptionRow, command_of, put_command, put_synopsis};
 pub use line::{Named, named_in};
 pub use page::Page;
 pub use places::{Place, place_of};
 pub use sentences::{SENTENCES, Sentence, put_sentence, sentence_of};
+pub use showing::put_place;
 pub use words::{file_named, put_faults, value_of};

@@ -81,6 +81,13 @@ pub const SENTENCES: &[Sentence] = &[
     },
     Sentence {
         status: 3,
+        line: "malformed frames ",
+        least: 0,
+        means: "The file isn't a file of frames: it is NRF1 and frames, each behind its length, or it was cut short.",
+        next: "Ask the neighbour for the file again. Frames inside of it that don't read are passed over.",
+    },
+    Sentence {
+        status: 3,
         line: "malformed evidence ",
         least: 0,
         means: "The file isn't evidence, or something inside of it isn't in its format.",

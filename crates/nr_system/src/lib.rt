@@ -6,14 +6,20 @@
 
 mod access;
 mod arguments;
+mod cause;
 mod descriptor;
 mod handles;
+mod kept;
 mod opening;
 mod output;
+mod reread;
 mod system_files;
 mod transfer;
 
 pub use access::Access;
 pub use arguments::{NoWords, words};
+pub use cause::Cause;
+pub use kept::Kept;
 pub use output::Output;
+pub use reread::contents;
 pub use system_files::SystemFiles;

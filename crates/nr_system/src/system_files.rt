@@ -3,6 +3,7 @@
 ghost use Rattle.std.specs.Prelude.{None};
 
 use crate::access::Access;
+use crate::cause::{Cause, cause_at};
 use crate::handles::Handles;
 use nr_ports::{Failed, Files, WriteFault, raise};
 use std::alloc::Global;
@@ -14,6 +15,8 @@ use std::rt::Files as Disk;
 #[derive(Drop)]
 pub struct SystemFiles<'a, R: Disk<File = File>> {
     handles: Handles<'a, R>,
+    alloc: Global,
+    cause: Option<Cause>,
     read_faults: u64,
     write_faults: u64,
 }
@@ -23,9 +26,16 @@ impl<'a, R: Disk<File = File>> SystemFiles<'a, R> {
     pub fn new(rt: &'a R, alloc: Global, access: Access) -> SystemFiles<'a, R> {
         SystemFiles {
             handles: Handles::new(rt, alloc, access),
+            alloc,
+            cause: None,
             read_faults: 0,
             write_faults: 0,
         }
+    }
+
+    /// Why the call failed that failed last, if one did and there was memory to keep it.
+    pub fn cause(&self) -> Option<&Cause> {
+        self.cause.as_ref()
     }
 }
 
@@ -36,7 +46,8 @@ impl<'a, R: Disk<File = File>> Files for SystemFiles<'a, R> {
     fn size(&mut self, name: &str) -> Result<Option<u64>, Failed> {
         match self.handles.size(name) {
             Ok(size) => Ok(size),
-            Err(_) => {
+            Err(error) => {
+                self.cause = cause_at(self.alloc, name, error);
                 self.read_faults = raise(1, self.read_faults);
                 Err(Failed)
             }
@@ -46,7 +57,8 @@ impl<'a, R: Disk<File = File>> Files for SystemFiles<'a, R> {
     fn read_at(&mut self, name: &str, at: u64, into: &mut [u8]) -> Result<usize, Failed> {
         match self.handles.read_at(name, at, into) {
             Ok(n) => Ok(n),
-            Err(_) => {
+            Err(error) => {
+                self.cause = cause_at(self.alloc, name, error);
                 self.read_faults = raise(1, self.read_faults);
                 Err(Failed)
             }
@@ -56,7 +68,8 @@ impl<'a, R: Disk<File = File>> Files for SystemFiles<'a, R> {
     fn write_at(&mut self, name: &str, at: u64, from: &[u8]) -> Result<(), WriteFault> {
         match self.handles.write_at(name, at, from) {
             Ok(()) => Ok(()),
-            Err(_) => {
+            Err(error) => {
+                self.cause = cause_at(self.alloc, name, error);
                 self.write_faults = raise(1, self.write_faults);
                 Err(WriteFault::Failed)
             }
@@ -66,7 +79,8 @@ impl<'a, R: Disk<File = File>> Files for SystemFiles<'a, R> {
     fn cut(&mut self, name: &str, len: u64) -> Result<(), WriteFault> {
         match self.handles.cut(name, len) {
             Ok(()) => Ok(()),
-            Err(_) => {
+            Err(error) => {
+                self.cause = cause_at(self.alloc, name, error);
                 self.write_faults = raise(1, self.write_faults);
                 Err(WriteFault::Failed)
             }
@@ -76,7 +90,8 @@ impl<'a, R: Disk<File = File>> Files for SystemFiles<'a, R> {
     fn sync(&mut self, name: &str) -> Result<(), WriteFault> {
         match self.handles.sync(name) {
             Ok(()) => Ok(()),
-            Err(_) => {
+            Err(error) => {
+                self.cause = cause_at(self.alloc, name, error);
                 self.write_faults = raise(1, self.write_faults);
                 Err(WriteFault::Failed)
             }
