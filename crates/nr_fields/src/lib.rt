@@ -1,0 +1,12 @@
+//! Which field of a file a place stands in, for a person. It looks at the bytes before the place alone.
+#![tactic(auto)]
+
+mod answer;
+mod field;
+mod format;
+mod parts;
+mod records;
+
+pub use answer::answer_field;
+pub use field::{Field, name_of};
+pub use format::Format;
