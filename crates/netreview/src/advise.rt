@@ -1,23 +1,40 @@
 //! What a person is told on standard error, once a run has ended. It changes nothing: whatever fails here is silent.
 
 use nr_advice::{
-    COMMANDS, Ended, Page, SENTENCES, promise_mistake, put_advice, put_cause, put_place,
+    COMMANDS, Ended, Mistake, Page, SENTENCES, mistake_of, put_advice, put_cause, put_place,
 };
-use nr_system::{Cause, contents};
+use nr_fields::{field_of, format_named, name_of};
+use nr_system::{Cause, beginning, contents};
 use std::alloc::AllocError;
 use std::io::Write;
 
 // The greatest size of a promise file, in bytes.
 const MOST_PROMISE: u64 = 1_048_576;
 
+// How many bytes of another file are read once more at most.
+const MOST_AGAIN: u64 = 268_435_456;
+
 // The line of a promise file that has a mistake, where the file can be read once more.
-fn put_promise(rt: &HostRuntime, page: &mut Page, ended: &Ended<'_>) -> Result<(), AllocError> {
-    if let Some((name, offset)) = promise_mistake(ended) {
-        if let Some(bytes) = contents(rt, rt.alloc(), name, MOST_PROMISE) {
-            put_place(page, rt.alloc(), name, &bytes, offset)?;
+fn put_promise(rt: &HostRuntime, page: &mut Page, mistake: &Mistake<'_>) -> Result<(), AllocError> {
+    if mistake.file == "promise" {
+        if let Some(bytes) = contents(rt, rt.alloc(), mistake.name, MOST_PROMISE) {
+            put_place(page, rt.alloc(), mistake.name, &bytes, mistake.offset)?;
         }
     }
     Ok(())
+}
+
+// How the field at a mistake is called, where the file can be read once more up to there.
+fn field_at(rt: &HostRuntime, mistake: &Mistake<'_>) -> Option<&'static str> {
+    let format = format_named(mistake.file)?;
+    if MOST_AGAIN < mistake.offset {
+        return None;
+    }
+    let before = beginning(rt, rt.alloc(), mistake.name, mistake.offset)?;
+    if (before.len() as u64) < mistake.offset {
+        return None;
+    }
+    Some(name_of(field_of(format, &before, before.len())))
 }
 
 // The file at which a call failed, and why.
@@ -35,9 +52,13 @@ fn put_all(
     ended: &Ended<'_>,
     cause: Option<&Cause>,
 ) -> Result<(), AllocError> {
-    put_promise(rt, page, ended)?;
+    let mut ended = *ended;
+    if let Some(mistake) = mistake_of(&ended) {
+        put_promise(rt, page, &mistake)?;
+        ended.field = field_at(rt, &mistake);
+    }
     put_fault(rt, page, cause)?;
-    put_advice(page, rt.alloc(), COMMANDS, SENTENCES, ended)
+    put_advice(page, rt.alloc(), COMMANDS, SENTENCES, &ended)
 }
 
 /// Tells a person what is told of a run that has ended, in one piece.

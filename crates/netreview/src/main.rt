@@ -54,6 +54,7 @@ fn run_words(rt: &HostRuntime, words: &[String]) -> u8 {
         words,
         status,
         text: out.first(),
+        field: None,
     };
     advise(rt, &ended, files.cause());
     status
@@ -67,6 +68,7 @@ fn main(rt: HostRuntime) -> ExitCode {
                 words: &[],
                 status: NO_WORDS,
                 text: &[],
+                field: None,
             };
             advise(&rt, &ended, None);
             NO_WORDS

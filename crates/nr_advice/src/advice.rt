@@ -13,12 +13,23 @@ use crate::showing::FORMS;
 use crate::words::{file_named, put_faults};
 use std::alloc::{AllocError, Global};
 
-/// A run that has ended: its words, its status, and the first bytes of what its output took.
+/// A run that has ended: its words, its status, and the first bytes of what its output took; and how the field of a file
+/// is called at which the line of the run points, where that is known.
 #[derive(Clone, Copy, Debug)]
 pub struct Ended<'a> {
     pub words: &'a [String],
     pub status: u8,
     pub text: &'a [u8],
+    pub field: Option<&'static str>,
+}
+
+/// A place in a file that isn't in its format: the word with which the line names the file, the file's name, and the
+/// offset.
+#[derive(Clone, Copy, Debug)]
+pub struct Mistake<'a> {
+    pub file: &'a str,
+    pub name: &'a str,
+    pub offset: u64,
 }
 
 // What the system says of an error, without its number. What isn't a regular file the program refuses by itself.
@@ -57,7 +68,7 @@ fn put_words(page: &mut Page, commands: &[CommandRow], words: &[String]) -> Resu
     }
 }
 
-// The name of the file that a line names, and the place in it.
+// The name of the file that a line names, the place in it, and the field that begins there.
 fn put_name(page: &mut Page, alloc: Global, ended: &Ended<'_>) -> Result<(), AllocError> {
     let Some(named) = named_in(ended.text) else {
         return Ok(());
@@ -69,18 +80,24 @@ fn put_name(page: &mut Page, alloc: Global, ended: &Ended<'_>) -> Result<(), All
     if let Some(offset) = named.offset {
         page.text(": byte ")?;
         page.number(alloc, offset)?;
+        if let Some(field) = ended.field {
+            page.texts(&[", ", field])?;
+        }
     }
     page.text("\n")
 }
 
-/// The name of a promise file that doesn't read, and the place in it.
-pub fn promise_mistake<'a>(ended: &Ended<'a>) -> Option<(&'a str, u64)> {
-    let named = named_in(ended.text)?;
-    if ended.status == 3 && named.file == "promise" {
-        Some((file_named(ended.words, "promise")?, named.offset?))
-    } else {
-        None
+/// The place in a file that doesn't read.
+pub fn mistake_of<'a>(ended: &Ended<'a>) -> Option<Mistake<'a>> {
+    if ended.status != 3 {
+        return None;
     }
+    let named = named_in(ended.text)?;
+    Some(Mistake {
+        file: named.file,
+        name: file_named(ended.words, named.file)?,
+        offset: named.offset?,
+    })
 }
 
 // What the promise file is made of, to somebody who has none that reads.

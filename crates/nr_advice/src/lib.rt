@@ -11,7 +11,7 @@ mod sentences;
 mod showing;
 mod words;
 
-pub use advice::{Ended, promise_mistake, put_advice, put_cause};
+pub use advice::{Ended, Mistake, mistake_of, put_advice, put_cause};
 pub use commands::{COMMANDS, CommandRow, Kind, OptionRow, command_of, put_command, put_synopsis};
 pub use line::{Named, named_in};
 pub use page::Page;

@@ -1,5 +1,5 @@
 -- Past a whole record.
-use Rattle.std.proofs.Common.{arith, true, ◌≡◌, ◌≤◌, ◌<◌, ◌+◌, ◌-◌, ◌*◌, ◌||◌, ℕ, zero, suc, false, Bool, List, length, drop, refl, nat_lt, if◌then◌else◌}
+use Rattle.std.proofs.Common.{arith, true, ◌≡◌, ◌≤◌, ◌<◌, ◌-◌, ℕ, zero, suc, false, List, drop, refl}
 use Rattle.nr_fields.specs.Records.{is_in_record, record_size, spot_among}
 use Rattle.nr_fields.specs.declared.records.Shape.{Shape}
 

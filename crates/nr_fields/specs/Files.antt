@@ -1,5 +1,5 @@
 -- Which field of a file a byte belongs to. What stands behind the byte plays no part.
-use Rattle.std.specs.Prelude.{ℕ, ◌+◌, ◌-◌, ◌==◌, nat_lt, if◌then◌else◌, List, length, drop}
+use Rattle.std.specs.Prelude.{ℕ, ◌-◌, ◌==◌, nat_lt, if◌then◌else◌, List, length, drop}
 use Rattle.nr_fields.specs.Fields.{seed_field, key_field, auth_field, entry_field, front_field, mrt_field, birth_field, claims_field}
 use Rattle.nr_fields.specs.Records.{number_behind, spot_among}
 use Rattle.nr_fields.specs.declared.records.Shape.{Shape}
@@ -47,3 +47,62 @@ answer_field bytes at =
     if nat_lt at 49 then front_field at
     else (if number_behind 48 1 bytes == 1 then body_field (drop 49 bytes) (at - 49)
     else counted_field (drop 49 bytes) (at - 49))
+
+-- where an offset stands among records up to the end of the bytes, and what is left of the bytes there
+abbrev pub spot_in : Shape → List ℕ → ℕ → Spot
+spot_in shape bytes at = spot_among shape (length bytes) bytes at
+
+abbrev pub rest_at : List ℕ → ℕ → Spot → List ℕ
+rest_at bytes at spot = drop (at - spot.at) bytes
+
+-- authenticators behind the magic
+unfoldable pub auths_field : List ℕ → ℕ → Field
+auths_field bytes at = if nat_lt at 4 then Magic else auth_field (spot_in auths (drop 4 bytes) (at - 4)).at
+
+unfoldable pub frames_field : List ℕ → ℕ → Field
+frames_field bytes at =
+    if nat_lt at 4 then Magic
+    else (if nat_lt (spot_in frames (drop 4 bytes) (at - 4)).at 4 then FrameLength else Frame)
+
+unfoldable pub records_field : List ℕ → ℕ → Field
+records_field bytes at = mrt_field (spot_in records bytes at).at
+
+-- the entries of a batch, and the gate and the length before them
+unfoldable pub batch_field : List ℕ → ℕ → Field
+batch_field bytes at =
+    if nat_lt at 1 then Gate else (if nat_lt at 5 then BatchLength
+    else entry_field (spot_in entries (drop 5 bytes) (at - 5)).at)
+
+unfoldable pub batches_field : List ℕ → ℕ → Field
+batches_field bytes at =
+    batch_field (rest_at bytes at (spot_in batches bytes at)) (spot_in batches bytes at).at
+
+unfoldable pub log_field : List ℕ → ℕ → Field
+log_field bytes at = if nat_lt at 43 then birth_field at else batches_field (drop 43 bytes) (at - 43)
+
+-- evidence from the length of its promise text on
+unfoldable pub promised_field : List ℕ → ℕ → Field
+promised_field bytes at =
+    if nat_lt at 4 then PromiseLength
+    else (if nat_lt (at - 4) (number_behind 0 4 bytes) then Promise
+    else claims_field (at - 4 - number_behind 0 4 bytes))
+
+-- evidence from the length of its answer on
+unfoldable pub answered_field : List ℕ → ℕ → Field
+answered_field bytes at =
+    if nat_lt at 4 then AnswerLength
+    else (if nat_lt (at - 4) (number_behind 0 4 bytes) then answer_field (drop 4 bytes) (at - 4)
+    else promised_field (drop (number_behind 0 4 bytes) (drop 4 bytes)) (at - 4 - number_behind 0 4 bytes))
+
+unfoldable pub evidence_field : List ℕ → ℕ → Field
+evidence_field bytes at = if nat_lt at 4 then Magic else answered_field (drop 4 bytes) (at - 4)
+
+abbrev pub field_of : Format → List ℕ → ℕ → Field
+field_of format.Seed bytes at = seed_field at
+field_of format.Key bytes at = key_field at
+field_of format.Auths bytes at = auths_field bytes at
+field_of format.Answer bytes at = answer_field bytes at
+field_of format.Evidence bytes at = evidence_field bytes at
+field_of format.Frames bytes at = frames_field bytes at
+field_of format.Log bytes at = log_field bytes at
+field_of format.Mrt bytes at = records_field bytes at

@@ -1,5 +1,5 @@
 -- Records one behind another, and where an offset stands among them.
-use Rattle.std.specs.Prelude.{ℕ, zero, suc, ◌+◌, ◌-◌, ◌*◌, ◌≤◌, Bool, ◌||◌, nat_lt, if◌then◌else◌, List, length, drop}
+use Rattle.std.specs.Prelude.{ℕ, zero, suc, ◌+◌, ◌-◌, ◌*◌, ◌≤◌, Bool, ◌||◌, nat_lt, if◌then◌else◌, List, drop}
 use Rattle.byteorder.specs.Endian.{big_number}
 use Rattle.nr_fields.specs.declared.records.Shape.{Shape}
 use Rattle.nr_fields.specs.declared.records.Spot.{Spot}

@@ -2,11 +2,12 @@
 #![tactic(auto)]
 
 mod answer;
+mod evidence;
 mod field;
 mod format;
 mod parts;
 mod records;
+mod repeated;
 
-pub use answer::answer_field;
 pub use field::{Field, name_of};
-pub use format::Format;
+pub use format::{Format, field_of, format_named};

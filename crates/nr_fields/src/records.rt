@@ -70,7 +70,8 @@ fn is_in_record(shape: &Shape, bytes: &[u8], at: usize) -> bool
 pub fn spot_among(shape: &Shape, count: u64, bytes: &[u8], at: usize) -> Spot
     requires shape { IsShape shape.now }
     requires inside { at ≤ length bytes.now }
-    ensures { result ≡ spot_among shape.now count bytes.now at }
+    ensures value { result ≡ spot_among shape.now count bytes.now at }
+    ensures within { result.at ≤ at }
 {
     let mut left = count;
     let mut rest = bytes;

@@ -21,5 +21,5 @@ pub use arguments::{NoWords, words};
 pub use cause::Cause;
 pub use kept::Kept;
 pub use output::Output;
-pub use reread::contents;
+pub use reread::{beginning, contents};
 pub use system_files::SystemFiles;

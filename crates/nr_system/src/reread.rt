@@ -20,3 +20,17 @@ pub fn contents<R: Disk<File = File>>(
         _ => None,
     }
 }
+
+/// The first bytes of a file, no more than these, where there is memory for them. Failures are silent.
+pub fn beginning<R: Disk<File = File>>(
+    rt: &R,
+    alloc: Global,
+    name: &str,
+    most: u64,
+) -> Option<Vec<u8>> {
+    let mut files = SystemFiles::new(rt, alloc, Access::Umask);
+    match files.size(name) {
+        Ok(Some(size)) => read_whole(alloc, &mut files, name, size.min(most)).ok(),
+        _ => None,
+    }
+}
