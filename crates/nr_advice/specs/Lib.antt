@@ -3,3 +3,4 @@ pub mod Commands
 pub mod Places
 pub mod Plain
 pub mod Sentences
+pub mod Words

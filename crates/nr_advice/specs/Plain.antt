@@ -1,5 +1,5 @@
 -- What is shown to a person.
-use Rattle.std.specs.Prelude.{ℕ, Bool, IsTrue, nat_le, ◌==◌, ◌&&◌, ◌||◌, if◌then◌else◌, List, map, All}
+use Rattle.std.specs.Prelude.{ℕ, Bool, IsTrue, nat_le, ◌==◌, ◌&&◌, ◌||◌, if◌then◌else◌, List, All}
 
 -- a terminal shows it as it is
 abbrev pub is_printable : ℕ → Bool

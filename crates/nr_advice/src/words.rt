@@ -1,21 +1,41 @@
 //! The values of options among the words of a run.
 
+ghost use Rattle.std.specs.Prelude.{◌≡◌, ◌==◌, map, true, false};
+ghost use Rattle.std.specs.List.{list_any};
+ghost use Rattle.std.specs.Option.{option_copied};
+ghost use Rattle.std.specs.String.{string_bytes};
+ghost use Rattle.nr_advice.specs.Words.{behind_name, behind_text, file_in, is_apart, is_plain_word, joined_value, next_value, takes_next, value_in};
+
 use crate::commands::{CommandRow, Kind, OptionRow};
 use crate::page::Page;
 use std::alloc::AllocError;
 
+// What stands behind a text with which a word begins.
+#[tactic(auto, using(crate::proofs::Prefixes::stripped))]
+fn behind_text<'a>(word: &'a str, text: &str) -> Option<&'a str>
+    ensures { option_copied result ≡ behind_text text.now word.now }
+{
+    word.strip_prefix(text)
+}
+
 // What stands behind the name of an option in a word: nothing, or `=` and the value.
-fn behind_name<'a>(word: &'a str, name: &str) -> Option<&'a str> {
-    word.strip_prefix("--")?.strip_prefix(name)
+fn behind_name<'a>(word: &'a str, name: &str) -> Option<&'a str>
+    ensures { option_copied result ≡ behind_name name.now word.now }
+{
+    behind_text(behind_text(word, "--")?, name)
 }
 
 // The value that the word of an option has after `=`.
-fn joined_value<'a>(word: &'a str, name: &str) -> Option<&'a str> {
-    behind_name(word, name)?.strip_prefix("=")
+fn joined_value<'a>(word: &'a str, name: &str) -> Option<&'a str>
+    ensures { option_copied result ≡ joined_value name.now word.now }
+{
+    behind_text(behind_name(word, name)?, "=")
 }
 
 // Whether a word is the option of a name, with its value in the next word.
-fn is_apart(word: &str, name: &str) -> bool {
+fn is_apart(word: &str, name: &str) -> bool
+    ensures { result ≡ is_apart name.now word.now }
+{
     match behind_name(word, name) {
         Some(rest) => rest.is_empty(),
         None => false,
@@ -23,22 +43,38 @@ fn is_apart(word: &str, name: &str) -> bool {
 }
 
 // Whether a word may stand as a value or as a file: it doesn't begin with `-`, or is `-` alone.
-fn is_plain(word: &str) -> bool {
+fn is_plain_word(word: &str) -> bool
+    ensures { result ≡ is_plain_word word.now }
+{
     word == "-" || !word.starts_with("-")
 }
 
+// The value that the next word is.
+fn next_value(words: &[String]) -> Option<&str>
+    ensures { option_copied result ≡ next_value (map string_bytes words.now) }
+{
+    let word = words.first()?.as_str();
+    if is_plain_word(word) {
+        Some(word)
+    } else {
+        None
+    }
+}
+
 /// The first value that the words give to the option of a name.
-pub fn value_of<'a>(words: &'a [String], name: &str) -> Option<&'a str> {
-    for at in 0..words.len() {
-        let word = words[at].as_str();
+#[tactic(auto, unfolding(crate::specs::Words::value_in))]
+pub fn value_of<'a>(words: &'a [String], name: &str) -> Option<&'a str>
+    ensures { option_copied result ≡ value_in name.now (map string_bytes words.now) }
+{
+    let mut rest = words;
+    while let Some(first) = rest.first() {
+        let word = first.as_str();
+        rest = &rest[1..];
         if let Some(value) = joined_value(word, name) {
             return Some(value);
         }
         if is_apart(word, name) {
-            return match words.get(at + 1) {
-                Some(value) if is_plain(value.as_str()) => Some(value.as_str()),
-                _ => None,
-            };
+            return next_value(rest);
         }
     }
     None
@@ -56,32 +92,41 @@ fn times_given(words: &[String], name: &str) -> usize {
     times
 }
 
-// How many words an item takes: an option with its value in the next word takes two.
-fn item_len(word: &str) -> usize {
-    if word.starts_with("--") && word != "--" && !word.contains("=") {
-        2
-    } else {
-        1
-    }
+fn has_equals(bytes: &[u8]) -> bool
+    ensures { result ≡ list_any (λ byte. byte == 61) bytes.now }
+{
+    bytes.iter().any(|byte| *byte == b'=')
+}
+
+// Whether a word is an option whose value is the next word.
+fn takes_next(word: &str) -> bool
+    ensures { result ≡ takes_next word.now }
+{
+    word.starts_with("--") && (word != "--" && !has_equals(word.as_bytes()))
 }
 
 /// The file without an option that stands at a place among such files, from 1, after the command's word.
-pub fn file_at(words: &[String], number: u64) -> Option<&str> {
+#[tactic(auto, unfolding(crate::specs::Words::file_in))]
+pub fn file_at(words: &[String], number: u64) -> Option<&str>
+    ensures { option_copied result ≡ file_in true false number (map string_bytes words.now) }
+{
+    let mut rest = words;
     let mut left = number;
-    let mut skipped = 1;
-    let mut only_files = false;
-    for at in 0..words.len() {
-        let word = words[at].as_str();
-        if at < skipped {
-            continue;
-        }
-        if !only_files && !is_plain(word) {
-            only_files = word == "--";
-            skipped = at.saturating_add(item_len(word));
-        } else if left <= 1 {
-            return Some(word);
-        } else {
+    let mut passed = true;
+    let mut files = false;
+    while let Some(first) = rest.first() {
+        let word = first.as_str();
+        rest = &rest[1..];
+        if passed {
+            passed = false;
+        } else if files || is_plain_word(word) {
+            if left <= 1 {
+                return Some(word);
+            }
             left -= 1;
+        } else {
+            passed = takes_next(word);
+            files = word == "--";
         }
     }
     None
@@ -196,8 +241,8 @@ fn put_strangers(
             continue;
         }
         if is_option_of(command, word) {
-            skipped = at.saturating_add(item_len(word));
-        } else if word != "--" && (!is_plain(word) || command.files.is_empty()) {
+            skipped = at.saturating_add(if takes_next(word) { 2 } else { 1 });
+        } else if word != "--" && (!is_plain_word(word) || command.files.is_empty()) {
             page.shown(word.as_bytes())?;
             page.text(" is no word of this command\n")?;
         }
