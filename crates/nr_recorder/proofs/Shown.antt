@@ -1,17 +1,17 @@
 -- The entries of a frame, and what its head states.
-use Rattle.std.proofs.Common.{◌≡◌, ℕ, zero, suc, ◌+◌, ◌-◌, ◌<◌, ◌≤◌, ◌^◌, Bool, true, false, List, [], ◌∷◌, ◌++◌, length, map, take, drop, Option, Some, None, Result, refl, sym, ap, subst, ◌∙◌, cond, arith}
+use Rattle.std.proofs.Common.{◌≡◌, ℕ, zero, suc, ◌+◌, ◌-◌, ◌<◌, ◌≤◌, Bool, true, false, List, [], ◌∷◌, ◌++◌, length, map, take, drop, Option, Some, Result, refl, sym, ap, subst, ◌∙◌, cond, arith}
 use Rattle.std.specs.Prelude.{slice_index_or}
 use Rattle.std.specs.List.{slice_get}
 use Rattle.std.specs.Option.{unwrap_or}
-use Rattle.std.proofs.lemmas.List.{drop-append-le, length-take-le, map-append, take_more}
-use Rattle.std.proofs.lemmas.Option.{slice_get_within, get_or_from_slice_get}
+use Rattle.std.proofs.lemmas.List.{drop-append-le, length-take-le, map-append}
+use Rattle.std.proofs.lemmas.Option.{slice_get_within}
 use Rattle.sha2.specs.Sha256.{sha256}
 use Rattle.sha2.proofs.Facts256.{length-sha256}
 use Rattle.nr_spec_log.specs.Chain.{LogEntry, value_after}
 use Rattle.nr_spec_log.specs.Answer.{AreEntriesFrom, IsEntry, last_time}
 use Rattle.nr_spec_entry.specs.Contents.{Commit, Content}
 use Rattle.nr_spec_entry.specs.ContentReading.{content_of}
-use Rattle.nr_spec_routes.specs.LookBack.{last_of, later_or}
+use Rattle.nr_spec_routes.specs.LookBack.{last_of}
 use Rattle.nr_spec_routes.proofs.Words.{unwrap_push}
 use Rattle.nr_spec_counts.specs.Tallies.{is_commit_to}
 use Rattle.nr_spec_steps.specs.Heads.{head_of, leaf_in, log_chain}

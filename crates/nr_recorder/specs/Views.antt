@@ -1,5 +1,5 @@
 -- What this crate's types stand for in the definitions.
-use Rattle.std.specs.Prelude.{ℕ, List, Option, length, map, option_map}
+use Rattle.std.specs.Prelude.{ℕ, List, length, map, option_map}
 use Rattle.nr_chain.specs.declared.digest.Digest.{Digest}
 use Rattle.nr_spec_counts.specs.Tallies.{Numbers}
 use Rattle.nr_spec_steps.specs.Heads.{Committed}
