@@ -8,7 +8,7 @@ use Rattle.nr_spec_log.specs.Chain.{Chain, LogEntry, chained, link_value, shown,
 use Rattle.nr_spec_steps.specs.Heads.{log_chain}
 use Rattle.nr_chain.specs.Views.{digest_bytes}
 use Rattle.nr_chain.specs.declared.digest.Digest.{Digest}
-use Rattle.nr_recorder.specs.Links.{AreLinks, values_from}
+use Rattle.nr_recorder.specs.Links.{AreLinks, HasLinks, values_from}
 
 -- ---- one entry more
 
@@ -53,18 +53,45 @@ value_kept asn log values count z some within are =
 
 -- ---- following
 
-pub linked_before : (asn : ℕ) (old batch new : List LogEntry) (values : List Digest) → AreLinks asn old values → new ≡ old ++ batch → AreLinks asn (take (length values) new) values
-linked_before asn old batch new values are added =
-    let size = as_many asn old values are in
-    subst (λ (l : List LogEntry). AreLinks asn l values)
-    (sym (ap (λ (l : List LogEntry). take (length values) l) added ∙ ap (λ (k : ℕ). take k (old ++ batch)) size ∙ take-append-le (length old) old batch (omega arith) ∙ whole old)) are
-  where
-    whole : (l : List LogEntry) → take (length l) l ≡ l
-    whole [] = refl
-    whole (x ∷ xs) = ap (λ (t : List LogEntry). x ∷ t) (whole xs)
+whole : (l : List LogEntry) → take (length l) l ≡ l
+whole [] = refl
+whole (x ∷ xs) = ap (λ (t : List LogEntry). x ∷ t) (whole xs)
 
-pub fewer : (asn : ℕ) (old batch new : List LogEntry) (values : List Digest) → AreLinks asn old values → new ≡ old ++ batch → length values ≤ length new
-fewer asn old batch new values are added = omega (arith, as_many asn old values are, ap length added, length-append old batch)
+-- a log without entries has all of its values
+pub no_links : (asn : ℕ) (log : List LogEntry) (values : List Digest) → log ≡ [] → values ≡ [] → HasLinks asn log values
+no_links asn log values none empty = rw (none, empty) (record { order = omega arith; links = refl })
+
+-- entries more change no value
+pub kept_links : (asn : ℕ) (old batch new : List LogEntry) (values : List Digest) → HasLinks asn old values → new ≡ old ++ batch → HasLinks asn new values
+kept_links asn old batch new values has added = record {
+  order = omega (arith, has.order, ap length added, length-append old batch);
+  links = subst (λ (l : List LogEntry). AreLinks asn l values)
+      (sym (ap (take (length values)) added ∙ take-append-le (length values) old batch has.order)) has.links;
+}
+
+-- the values of all entries
+pub all_links : (asn : ℕ) (log : List LogEntry) (values : List Digest) (count : ℕ) → count ≡ length log → AreLinks asn (take count log) values → HasLinks asn log values
+all_links asn log values count size are =
+    let many : length values ≡ length (take count log) = as_many asn (take count log) values are in
+    let taken_all : length (take count log) ≡ count = length-take-le count log (omega (arith, size)) in
+    record {
+      order = omega (arith, many, taken_all, size);
+      links = subst (λ (k : ℕ). AreLinks asn (take k log) values) (sym (many ∙ taken_all)) are;
+    }
+
+pub as_all : (asn : ℕ) (log : List LogEntry) (values : List Digest) (count : ℕ) → count ≡ length log → AreLinks asn (take count log) values → length values ≡ length log
+as_all asn log values count size are =
+    as_many asn (take count log) values are ∙ length-take-le count log (omega (arith, size)) ∙ size
+
+-- the chain value after one entry more
+pub walked_more : (asn : ℕ) (log : List LogEntry) (walk moved : Chain) (place : ℕ) (e : LogEntry) → walk.value ≡ value_after (log_chain asn) (take place log) → walk.seq ≡ place + 1
+    → slice_get log place ≡ Some e → moved ≡ chained walk (shown e) → moved.value ≡ value_after (log_chain asn) (take (place + 1) log)
+walked_more asn log walk moved place e value seq is walked =
+    let within = slice_get_within log place e is in
+    let size : length (take place log) ≡ place = length-take-le place log (omega arith) in
+    let at : walk.seq ≡ 1 + length (take place log) = omega arith in
+    ap (λ (c : Chain). c.value) walked ∙ (λ i. link_value (value i) (at i) (shown e)) ∙ sym (value_more (log_chain asn) (take place log) e)
+    ∙ ap (value_after (log_chain asn)) (sym (taken log place e is))
 
 -- what holds of the values, of the chain and of the number of the next entry after so many entries
 pub record Follows (asn : ℕ) (log : List LogEntry) (values : List Digest) (walk : Chain) (place : ℕ) : Type 0 where
@@ -76,20 +103,25 @@ pub follows_more : (asn : ℕ) (log : List LogEntry) (values new : List Digest) 
     → walk.value ≡ value_after (log_chain asn) (take place log) → walk.seq ≡ place + 1 → slice_get log place ≡ Some e → moved ≡ chained walk (shown e) → digest_bytes d ≡ moved.value → new ≡ values ++ d ∷ []
     → Follows asn log new moved (place + 1)
 follows_more asn log values new walk moved place e d so_far value seq is walked put more =
-    let within = slice_get_within log place e is in
-    let size : length (take place log) ≡ place = length-take-le place log (omega arith) in
-    let at : walk.seq ≡ 1 + length (take place log) = omega arith in
     let all = taken log place e is in
-    let here : moved.value ≡ value_after (log_chain asn) (take place log ++ e ∷ []) =
-    ap (λ (c : Chain). c.value) walked ∙ (λ i. link_value (value i) (at i) (shown e)) ∙ sym (value_more (log_chain asn) (take place log) e) in
+    let after : moved.value ≡ value_after (log_chain asn) (take (place + 1) log) = walked_more asn log walk moved place e value seq is walked in
+    let here : moved.value ≡ value_after (log_chain asn) (take place log ++ e ∷ []) = after ∙ ap (value_after (log_chain asn)) all in
     record {
       so_far =
           ap (map digest_bytes) more ∙ map-append digest_bytes values (d ∷ []) ∙ (λ i. so_far i ++ (put ∙ here) i ∷ [])
           ∙ sym (values_more (log_chain asn) (take place log) e) ∙ ap (values_from (log_chain asn)) (sym all);
-      value = here ∙ ap (value_after (log_chain asn)) (sym all);
+      value = after;
       seq = ap (λ (c : Chain). c.seq) walked ∙ ap (λ (k : ℕ). k + 1) seq;
     }
 
--- the values reach as far as the log
-pub reaches : (asn : ℕ) (log now : List LogEntry) (values read : List Digest) (count : ℕ) → AreLinks asn log values → log ≡ now → read ≡ values → count ≤ length now → count ≤ length read
-reaches asn log now values read count are same read_is within = omega (arith, as_many asn log values are, ap length same, ap length read_is, within)
+-- the value after entries that all have one
+take_take : (k n : ℕ) (l : List LogEntry) → k ≤ n → take k (take n l) ≡ take k l
+take_take zero n l less = refl
+take_take (suc k) zero l less = absurd (omega arith)
+take_take (suc k) (suc n) [] less = refl
+take_take (suc k) (suc n) (x ∷ xs) less = ap (λ (t : List LogEntry). x ∷ t) (take_take k n xs (omega arith))
+
+pub known_value : (asn : ℕ) (log : List LogEntry) (values : List Digest) (count : ℕ) (value : List ℕ) → HasLinks asn log values → count ≤ length values
+    → ((l : List LogEntry) → AreLinks asn l values → value ≡ value_after (log_chain asn) (take count l)) → value ≡ value_after (log_chain asn) (take count log)
+known_value asn log values count value has within known =
+    known (take (length values) log) has.links ∙ ap (value_after (log_chain asn)) (take_take count (length values) log within)

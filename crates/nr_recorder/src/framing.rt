@@ -14,19 +14,21 @@ use nr_exchange::{FrameError, write_frame};
 impl Core {
     // What the head states that a COMMIT signs.
     fn tip_at(&self, commit: u64) -> Tip
-        requires { (n : ℕ) × CommitsAt n self.now.log commit }
+        requires commit { (n : ℕ) × CommitsAt n self.now.log commit }
+        requires room { length self.now.log < 2 ^ 62 }
         ensures { IsTip self.now.key.asn (take commit self.now.log) commit result.value.0 result.time result.leaf }
     {
-        let entry = self.book.log().at(commit as usize - 1);
+        let log = self.book.log();
+        let entry = log.at(commit as usize - 1);
         Tip {
-            value: value_at(self.asn, &self.values, commit as usize),
+            value: value_at(self.asn, &self.values, log, commit as usize),
             time: entry.time,
             leaf: leaf_after(0, &entry),
         }
     }
 
     /// The frame that shows a neighbour of the own file the entries from behind `after` up to the COMMIT to it that has
-    /// the number `commit`. `TooLong` comes exactly where these are more than 16,777,216 entries.
+    /// the number `commit`. Entries whose chain values aren't kept are walked twice: `link` keeps them. `TooLong` comes exactly where these are more than 16,777,216 entries.
     pub fn frame(&self, neighbour: u16, after: u64, commit: u64) -> Result<Vec<u8>, FrameError>
         requires neighbour { neighbour < length self.now.peers }
         requires commit { CommitsAt neighbour self.now.log commit }
@@ -36,7 +38,7 @@ impl Core {
             (frame_for self.now.key (as_of self.now.peers neighbour) neighbour self.now.log after commit) }
     {
         let head = self.sign(commit, &self.tip_at(commit))?;
-        let prev = value_at(self.asn, &self.values, after as usize);
+        let prev = value_at(self.asn, &self.values, self.book.log(), after as usize);
         let items = self
             .book
             .seen_by(self.alloc, neighbour, after as usize, commit as usize)?;

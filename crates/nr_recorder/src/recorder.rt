@@ -42,7 +42,7 @@ pub struct Core {
     pub(crate) seed: Seed,
     pub(crate) tree: Tree,
     pub(crate) book: Book,
-    // The chain value of each entry.
+    // The chain values of its first entries, as many as `link` has been asked for.
     pub(crate) values: Vec<Digest>,
 }
 
@@ -50,7 +50,7 @@ impl Model for Core {
     ghost use Rattle.std.specs.Prelude.{◌≡◌};
     ghost use Rattle.nr_spec_keys.specs.Trees.{tree_of};
     ghost use Rattle.nr_recorder.specs.Kept.{Kept};
-    ghost use Rattle.nr_recorder.specs.Links.{AreLinks};
+    ghost use Rattle.nr_recorder.specs.Links.{HasLinks};
     ghost use Rattle.nr_recorder.specs.Views.{numbers_in, peers_of};
 
     ghost Value = { Kept };
@@ -62,7 +62,7 @@ impl Model for Core {
       log = c.book;
     } };
 
-    ghost invariant = { λ c. (c.tree ≡ tree_of c.seed.0 c.tree.height) × AreLinks c.asn c.book c.values.items };
+    ghost invariant = { λ c. (c.tree ≡ tree_of c.seed.0 c.tree.height) × HasLinks c.asn c.book c.values.items };
 }
 
 /// How many leaves a tree has.
@@ -138,6 +138,32 @@ impl Core {
         } = self;
         let content = entry.content.to_vec(alloc)?;
         let book = book.append(Owned::new(entry.time, entry.kind, content))?;
+        Ok(Core {
+            alloc,
+            own,
+            asn,
+            seed,
+            tree,
+            book,
+            values,
+        })
+    }
+
+    /// The same core, which keeps the chain value of each of its entries: its frames then take no walk from the first entry.
+    /// After `Memory` the core is gone.
+    pub fn link(self) -> Result<Core, Memory>
+        requires { length self.log < 2 ^ 62 }
+        ensures { IfOk result (λ core. core ≡ self) }
+    {
+        let Core {
+            alloc,
+            own,
+            asn,
+            seed,
+            tree,
+            book,
+            values,
+        } = self;
         let values = follow(asn, values, book.log())?;
         Ok(Core {
             alloc,
@@ -215,7 +241,6 @@ impl Core {
         let first = book.log().len() as u64 + 1;
         let commits = list_commits(alloc, own.numbers().count, heads, first)?;
         let book = book.speak(alloc, now, leaf, heads, content)?;
-        let values = follow(asn, values, book.log())?;
         let core = Core {
             alloc,
             own,

@@ -1,15 +1,6 @@
 use Rattle.std.proofs.Common.{◌∙◌, ◌+◌, ap, filter, length, ltb}
 use Rattle.nr_spec_steps.specs.Heads.{Committed, numbered}
 use Rattle.nr_recorder.proofs.recorder.Core.speak.Goals as goal
-use Rattle.nr_recorder.proofs.Linking.{fewer, linked_before}
-
-pub follow-requires-clause-start : goal.follow-requires-clause-start
-follow-requires-clause-start c =
-    linked_before c.self.inside.asn c.self.inside.book _ c.log-2.result.now c.self.inside.values.items c.self.invariant.1 (c.log-2.ensures.entries ∙ c.in_ok-book.ensures)
-
-pub follow-requires-clause-order : goal.follow-requires-clause-order
-follow-requires-clause-order c =
-    fewer c.self.inside.asn c.self.inside.book _ c.log-2.result.now c.self.inside.values.items c.self.invariant.1 (c.log-2.ensures.entries ∙ c.in_ok-book.ensures)
 
 pub returns-clause-commits : goal.returns-clause-commits
 returns-clause-commits c =

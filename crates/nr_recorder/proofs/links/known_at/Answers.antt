@@ -1,5 +1,5 @@
 use Rattle.std.proofs.Common.{arith}
-use Rattle.nr_recorder.proofs.links.value_at.Goals as goal
+use Rattle.nr_recorder.proofs.links.known_at.Goals as goal
 use Rattle.nr_recorder.proofs.Linking.{value_kept}
 
 pub returns-else-count-eq0 : goal.returns-else-count-eq0
