@@ -23,3 +23,8 @@ abbrev pub Writes : {V : Type 0} → (V → List ℕ) → Result V FrameError �
 Writes bytes (Ok out) f = (bytes out ≡ frame f) × (length f.items ≤ most_items)
 Writes bytes (Err (TooLong n)) f = (n ≡ length f.items) × (most_items < length f.items)
 Writes bytes (Err Memory) f = ⊤
+
+-- there are too many items, and how many
+abbrev pub SaysLong : FrameError → (count : ℕ) → Type 0
+SaysLong (TooLong n) count = (n ≡ count) × (most_items < count)
+SaysLong Memory count = ⊤

@@ -1,15 +1,14 @@
 //! Writing frames.
 
-ghost use Rattle.std.specs.Prelude.{◌≡◌, ◌≤◌, ◌<◌, ◌^◌, ◌++◌, OnOk, length, map};
+ghost use Rattle.std.specs.Prelude.{◌≡◌, ◌≤◌, ◌<◌, ◌^◌, ◌++◌, IfErr, OnOk, length, map};
 ghost use Rattle.std.specs.List.{flat_map};
 ghost use Rattle.nr_spec_log.specs.Answer.{IsEntry, entry};
-ghost use Rattle.nr_answer.specs.Views.{auth_of};
+ghost use Rattle.nr_spec_log.specs.Authenticator.{Authenticator, authenticator};
 ghost use Rattle.nr_chain.specs.Views.{entry_of};
 ghost use Rattle.nr_spec_frames.specs.Frames.{IsItem, AreItemsFrom, frame, frame_front, frame_item, most_items};
 ghost use Rattle.nr_exchange.specs.Views.{frame_item_of};
-ghost use Rattle.nr_exchange.specs.Writing.{Writes, frame_made};
+ghost use Rattle.nr_exchange.specs.Writing.{SaysLong, Writes, frame_made};
 
-use nr_answer::Auth;
 use nr_bytes::{List, Memory, put_bytes, put_u8, put_u16, put_u32, put_u64};
 use nr_chain::{Digest, Entry, Item};
 use std::alloc::{AllocError, Global};
@@ -162,21 +161,21 @@ fn put_frame(
     first: u64,
     prev: &Digest,
     items: &List<Item<'_>>,
-    auth: &Auth<'_>,
+    auth: &[u8],
 ) -> Result<(), Memory>
     requires fit { AreItemsFrom 0 (map frame_item_of items.now) }
     requires count { length items.now ≤ most_items }
-    ensures { OnOk result (out.new.items ≡ out.old.items
-        ++ frame (frame_made from_as to_as number first prev.now.0 (map frame_item_of items.now) (auth_of auth.now))) }
+    ensures { OnOk result ((head : Authenticator) → auth.now ≡ authenticator head → out.new.items ≡ out.old.items
+        ++ frame (frame_made from_as to_as number first prev.now.0 (map frame_item_of items.now) head)) }
 {
     put_front(out, from_as, to_as, number, first, prev, count_of(items))?;
     put_items(out, items)?;
-    put_bytes(out, auth.whole)?;
+    put_bytes(out, auth)?;
     Ok(())
 }
 
-/// The bytes of a frame: of these items, from entry `first` on with the chain value before it, and of the authenticator
-/// of the last of them. `TooLong` comes exactly where there are more than 16,777,216 items, and says how many.
+/// The bytes of a frame: of these items, from entry `first` on with the chain value before it, and of the spelling of the
+/// authenticator of the last of them. `TooLong` comes exactly where there are more than 16,777,216 items, and says how many.
 ///
 /// It is the caller's part that there is one item or more, that `number` is below 256 and that `first` is from 1 to
 /// 2^62. Where `IsFrame` holds of the frame, `Frame::read` reads it back.
@@ -188,17 +187,19 @@ pub fn write_frame(
     first: u64,
     prev: &Digest,
     items: &List<Item<'_>>,
-    auth: &Auth<'_>,
+    auth: &[u8],
 ) -> Result<Vec<u8>, FrameError>
     requires { AreItemsFrom 0 (map frame_item_of items.now) }
-    ensures { Writes (λ out. out.items) result
-        (frame_made from_as to_as number first prev.now.0 (map frame_item_of items.now) (auth_of auth.now)) }
+    ensures frame { (head : Authenticator) → auth.now ≡ authenticator head → Writes (λ out. out.items) result
+        (frame_made from_as to_as number first prev.now.0 (map frame_item_of items.now) head) }
+    ensures fits { OnOk result (length items.now ≤ most_items) }
+    ensures long { IfErr result (λ e. SaysLong e (length items.now)) }
 {
     let count = items.len() as u64;
     if MOST < count {
         return Err(FrameError::TooLong(count));
     }
-    let size = FRONT + items_size(items) + auth.whole.len() as u64;
+    let size = FRONT + items_size(items) + auth.len() as u64;
     let mut out = Vec::with_capacity(alloc, size as usize)?;
     put_frame(&mut out, from_as, to_as, number, first, prev, items, auth)?;
     Ok(out)

@@ -25,7 +25,7 @@ log_is initial core left all r = ap (λ (k : Kept). k.log) r.is ∙ ap (λ (l : 
 pub replay_begin : (core : Kept) (left all : List LogEntry) → core.log ≡ [] → left ≡ all → AreEntriesFrom 0 left → length left ≤ most_log → Replayed core core left all
 replay_begin core left all first is fit few = record {
   done = [];
-  is = ap (λ (l : List LogEntry). record { own = core.own; key = core.key; log = l }) (sym (append-nil core.log));
+  is = ap (λ (l : List LogEntry). record { own = core.own; peers = core.peers; key = core.key; log = l }) (sym (append-nil core.log));
   first = first;
   split = is;
   fit = fit;
@@ -45,7 +45,7 @@ pub replay_more : (initial core after : Kept) (e : LogEntry) (left all : List Lo
 replay_more initial core after e left all r is = record {
   done = r.done ++ e ∷ [];
   is = is ∙ ap (λ (k : Kept). with_entries k (e ∷ [])) r.is
-      ∙ ap (λ (l : List LogEntry). record { own = initial.own; key = initial.key; log = l }) (append_assoc initial.log r.done (e ∷ []));
+      ∙ ap (λ (l : List LogEntry). record { own = initial.own; peers = initial.peers; key = initial.key; log = l }) (append_assoc initial.log r.done (e ∷ []));
   first = r.first;
   split = append_assoc r.done (e ∷ []) left ∙ r.split;
   fit = subst (λ (n : ℕ). AreEntriesFrom n left) (sym (last_more 0 r.done e)) r.fit.2;

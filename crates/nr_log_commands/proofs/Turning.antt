@@ -116,7 +116,7 @@ pub record IsAfter (start now : Kept) (events : List Event) (count : ℕ) : Type
 pub after_none : (start : Kept) (events : List Event) → IsAfter start start events 0
 after_none start events = record {
   batch = [];
-  core = ap (λ (l : List LogEntry). record { own = start.own; key = start.key; log = l }) (sym (append-nil start.log));
+  core = ap (λ (l : List LogEntry). record { own = start.own; peers = start.peers; key = start.key; log = l }) (sym (append-nil start.log));
   few = omega arith;
   leads = prepend_none (turn (recorder_of no_frames start) start.log events)
       ∙ ap (λ (l : List LogEntry). prepend [] (turn (recorder_of no_frames start) l events)) (sym (append-nil start.log));
@@ -143,7 +143,7 @@ after_next start now after events i e a got (step, is, longer) =
     let both = a.batch ++ step in
     record {
       batch = both;
-      core = subst (λ (k : Kept). after ≡ with_entries k step) a.core longer ∙ ap (λ (l : List LogEntry). record { own = start.own; key = start.key; log = l }) joined;
+      core = subst (λ (k : Kept). after ≡ with_entries k step) a.core longer ∙ ap (λ (l : List LogEntry). record { own = start.own; peers = start.peers; key = start.key; log = l }) joined;
       few = omega (arith, a.few, step_short r log e step here, length-append a.batch step);
       leads = a.leads ∙ ap (λ (l : List Event). prepend a.batch (turn r log l)) (drop_one events i e got)
           ∙ ap (prepend a.batch) (turn_ok r log e left step here) ∙ prepend_both a.batch step (turn r (log ++ step) left)

@@ -4,6 +4,7 @@ use Rattle.nr_spec_bgp.specs.Records.{Item}
 use Rattle.nr_spec_history.specs.KeyFiles.{Key, key_root}
 use Rattle.nr_spec_log.specs.Chain.{LogEntry}
 use Rattle.nr_recorder.specs.Kept.{Kept}
+use Rattle.nr_recorder.specs.Views.{peers_of}
 use Rattle.nr_spec_plans.specs.Plans.{Done, want, ◌>>=◌}
 use Rattle.nr_spec_store.specs.LogFile.{LogFile}
 use Rattle.nr_spec_steps.specs.Events.{Event}
@@ -44,7 +45,12 @@ appended_plan name key found r turns skips = do
 
 -- what the recorder of a promise file and a key keeps of a log
 abbrev pub kept_by : PromiseFile → Key → List LogEntry → Kept
-kept_by promise key log = record { own = numbers_in promise; key = key; log = log }
+kept_by promise key log = record {
+  own = numbers_in promise;
+  peers = peers_of promise.says.neighbours;
+  key = key;
+  log = log;
+}
 
 -- what is recorded behind the log that was found, which is that of the key
 abbrev pub ready_plan : RecordRequest → PromiseFile → Key → List Speaker → List (List Item) → Option LogFile

@@ -16,7 +16,7 @@ use Rattle.nr_recorder.specs.Views.{committed_of}
 use Rattle.nr_recorder.proofs.Steps.{idle_commits, idle_step, spent_step, spoken_commits, spoken_step}
 
 none_more : (core : Kept) → core ≡ with_entries core []
-none_more core = λ i. record { own = core.own; key = core.key; log = sym (append-nil core.log) i }
+none_more core = λ i. record { own = core.own; peers = core.peers; key = core.key; log = sym (append-nil core.log) i }
 
 module _ (acknowledged : List LogEntry → List ℕ → Option Content) (core : Kept) (event : Event) (own : Numbers) (book : List LogEntry) (k : discipline.Kept) (content : Option Content) (idle : Bool)
     (own_is : own ≡ core.own) (book_is : book ≡ core.log) (kept : discipline.IsKeptOf (known book) k)

@@ -1,8 +1,10 @@
 pub mod Asked
 pub mod Booking
 pub mod Commits
+pub mod Linking
 pub mod Listing
 pub mod Passing
+pub mod Shown
 pub mod Steps
 pub mod Tips
 pub mod Waiting

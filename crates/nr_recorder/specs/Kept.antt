@@ -5,9 +5,11 @@ use Rattle.nr_spec_entry.specs.Contents.{Content}
 use Rattle.nr_spec_history.specs.KeyFiles.{Key}
 use Rattle.nr_spec_counts.specs.Tallies.{Numbers}
 use Rattle.nr_spec_steps.specs.Steps.{Recorder}
+use Rattle.nr_spec_deliveries.specs.Sending.{Peer}
 
 pub record Kept : Type 0 where
   pub own : Numbers  -- of its own promise file
+  pub peers : List Peer  -- the neighbours of that file
   pub key : Key
   pub log : List LogEntry
 
@@ -17,7 +19,7 @@ recorder_of acknowledged core = record { own = core.own; leaves = 2 ^ core.key.h
 
 -- entries more
 abbrev pub with_entries : Kept → List LogEntry → Kept
-with_entries core batch = record { own = core.own; key = core.key; log = core.log ++ batch }
+with_entries core batch = record { own = core.own; peers = core.peers; key = core.key; log = core.log ++ batch }
 
 -- the entry of a number, counted from 1
 abbrev pub entry_number : ℕ → List LogEntry → Option LogEntry

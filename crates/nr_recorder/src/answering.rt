@@ -1,14 +1,14 @@
 //! Answers: the whole log up to its last head, with the head signed.
 
-ghost use Rattle.std.specs.Prelude.{◌≡◌, ◌<◌, ◌^◌, IfOk, Some, length, map, unwrap_or};
+ghost use Rattle.std.specs.Prelude.{◌≡◌, ◌<◌, ◌^◌, IfOk, List, Some, length, map, unwrap_or};
 ghost use Rattle.nr_chain.specs.Views.{entry_of};
-ghost use Rattle.nr_spec_log.specs.Chain.{value_after};
+ghost use Rattle.nr_spec_log.specs.Chain.{LogEntry, value_after};
 ghost use Rattle.nr_spec_log.specs.Authenticator.{authenticator};
 ghost use Rattle.nr_spec_log.specs.Answer.{AreEntriesFrom, last_time};
 ghost use Rattle.nr_spec_entry.specs.ContentReading.{content_of};
 ghost use Rattle.nr_spec_routes.specs.LookBack.{last_of};
 ghost use Rattle.nr_spec_steps.specs.Heads.{answer_from_first, head_body, head_of, leaf_in, log_chain, whole_answer};
-ghost use Rattle.nr_recorder.specs.Answering.{AnswersWhole};
+ghost use Rattle.nr_recorder.specs.Answering.{AnswersWhole, IsTip};
 
 use crate::recorder::{Core, leaves};
 use nr_answer::{WriteError, write_answer};
@@ -41,14 +41,14 @@ impl From<Memory> for AnswerError {
 
 // What the head of entries states of the last of them, and the leaf of the last COMMIT among them, or 0.
 #[derive(Clone, Copy, Debug)]
-struct Tip {
-    value: Digest,
-    time: u64,
-    leaf: u32,
+pub struct Tip {
+    pub value: Digest,
+    pub time: u64,
+    pub leaf: u32,
 }
 
-// The leaf of an entry that is a COMMIT, or else this one.
-fn leaf_after(leaf: u32, entry: &Entry<'_>) -> u32
+/// The leaf of an entry that is a COMMIT, or else this one.
+pub fn leaf_after(leaf: u32, entry: &Entry<'_>) -> u32
     ensures { result ≡ unwrap_or (leaf_in (content_of (entry_of entry.now))) leaf }
 {
     match nr_entry::read(entry.kind, entry.content) {
@@ -109,7 +109,15 @@ impl Core {
             ≡ authenticator (head_of self.now.key (map entry_of entries.now))) }
     {
         let tip = tip_of(self.asn, entries);
-        let seq = entries.len() as u64;
+        let head = self.sign(entries.len() as u64, &tip)?;
+        Ok(head)
+    }
+
+    /// The spelling of an authenticator of entry `seq`, where the head of the entries up to it states this.
+    pub(crate) fn sign(&self, seq: u64, tip: &Tip) -> Result<Vec<u8>, Memory>
+        ensures { IfOk result (λ head. (log : List LogEntry) → IsTip self.now.key.asn log seq tip.now.value.0 tip.now.time tip.now.leaf
+            → head.items ≡ authenticator (head_of self.now.key log)) }
+    {
         let body = head_body(self.alloc, self.asn, seq, tip.time, &tip.value)?;
         let mut head = Vec::new(self.alloc);
         put_bytes(&mut head, &body)?;

@@ -3,17 +3,20 @@
 ghost use Rattle.std.specs.Prelude.{◌≡◌, ◌≤◌, ◌<◌, ◌^◌, ◌++◌, ◌∷◌, [], IfOk, drop, length, map, take};
 ghost use Rattle.nr_chain.specs.Views.{entry_of};
 ghost use Rattle.nr_spec_log.specs.Answer.{AreEntriesFrom, IsEntry, last_time};
+ghost use Rattle.nr_spec_frames.specs.Frames.{AreItemsFrom};
+ghost use Rattle.nr_spec_frames.specs.Showing.{seen_by};
 ghost use Rattle.nr_spec_routes.specs.Rows.{rows_after};
 ghost use Rattle.nr_spec_steps.specs.Events.{time_of};
 ghost use Rattle.nr_spec_steps.specs.Steps.{body_digest, heads_for, known, moment};
 ghost use Rattle.nr_events.specs.Views.{event_of};
 ghost use Rattle.nr_discipline.specs.Kept.{IsKeptOf};
+ghost use Rattle.nr_exchange.specs.Views.{frame_item_of};
 
 use crate::heads::heads_for;
 use crate::log::{Log, Owned};
 use crate::telling::time_of;
 use nr_bytes::{List, Memory};
-use nr_chain::{Digest, Entry};
+use nr_chain::{Digest, Entry, Item};
 use nr_discipline::{Counts, body_digest};
 use nr_events::Event;
 use nr_tables::{State, Touched};
@@ -105,6 +108,24 @@ impl Book {
     {
         let entries = self.log.first(alloc, count)?;
         Ok(entries)
+    }
+
+    /// The entries between two places as a neighbour sees them.
+    pub fn seen_by(
+        &self,
+        alloc: Global,
+        neighbour: u16,
+        from: usize,
+        to: usize,
+    ) -> Result<List<Item<'_>>, Memory>
+        requires order { from ≤ to }
+        requires within { to ≤ length self.now }
+        ensures items { IfOk result (λ items.
+            map frame_item_of items ≡ map (seen_by neighbour) (drop from (take to self.now))) }
+        ensures fit { IfOk result (λ items. AreItemsFrom 0 (map frame_item_of items)) }
+    {
+        let items = self.log.seen_by(alloc, neighbour, from, to)?;
+        Ok(items)
     }
 
     /// What is known after them.

@@ -4,7 +4,9 @@
 
 mod answering;
 mod book;
+mod framing;
 mod heads;
+mod links;
 mod log;
 mod outcome;
 mod own;
@@ -14,6 +16,7 @@ mod telling;
 
 pub use answering::AnswerError;
 pub use nr_events::Event;
+pub use nr_exchange::FrameError;
 pub use outcome::{Out, Refusal};
 pub use own::Own;
 pub use recorder::Core;

@@ -4,11 +4,14 @@ ghost use Rattle.std.specs.Prelude.{◌≡◌, ◌≤◌, ◌<◌, ◌++◌, ◌
 ghost use Rattle.nr_chain.specs.Views.{entry_of};
 ghost use Rattle.nr_spec_entry.specs.ContentReading.{content_of};
 ghost use Rattle.nr_spec_counts.specs.Tallies.{is_commit_to};
+ghost use Rattle.nr_spec_frames.specs.Showing.{seen_by};
 ghost use Rattle.nr_spec_steps.specs.Heads.{last_commit};
+ghost use Rattle.nr_exchange.specs.Views.{frame_item_of};
 
 use nr_bytes::{List, Memory};
-use nr_chain::Entry;
+use nr_chain::{Entry, Item};
 use nr_entry::Content;
+use nr_exchange::seen_by;
 use std::alloc::Global;
 use std::marker::Model;
 
@@ -141,6 +144,26 @@ impl Log {
             entries.push(self.at(place))?;
         }
         Ok(entries)
+    }
+
+    /// The entries between two places as a neighbour sees them.
+    pub fn seen_by(
+        &self,
+        alloc: Global,
+        neighbour: u16,
+        from: usize,
+        to: usize,
+    ) -> Result<List<Item<'_>>, Memory>
+        requires order { from ≤ to }
+        requires within { to ≤ length self.now }
+        ensures { IfOk result (λ items.
+            map frame_item_of items ≡ map (seen_by neighbour) (drop from (take to self.now))) }
+    {
+        let mut items = List::new(alloc);
+        for place in from..to {
+            items.push(seen_by(&self.at(place), neighbour))?;
+        }
+        Ok(items)
     }
 
     /// The number of the last COMMIT to a neighbour, or to the auditor, among so many first entries.

@@ -15,16 +15,17 @@ ghost use Rattle.nr_events.specs.Views.{event_of};
 ghost use Rattle.nr_recorder.specs.Kept.{entry_number, with_entries};
 ghost use Rattle.nr_recorder.specs.Speaking.{ending};
 ghost use Rattle.nr_recorder.specs.Stepping.{Steps};
-ghost use Rattle.nr_recorder.specs.Views.{committed_of, numbers_in};
+ghost use Rattle.nr_recorder.specs.Views.{committed_of, numbers_in, peers_of};
 
 use crate::book::Book;
 use crate::heads::heads_for;
+use crate::links::follow;
 use crate::log::Owned;
 use crate::outcome::{Out, Refusal, list_commits};
 use crate::own::Own;
 use crate::telling::{is_close, told};
 use nr_bytes::Memory;
-use nr_chain::Entry;
+use nr_chain::{Digest, Entry};
 use nr_entry::AUDITOR;
 use nr_events::Event;
 use nr_lamport::Seed;
@@ -36,28 +37,32 @@ use std::marker::Model;
 #[derive(Drop)]
 pub struct Core {
     pub(crate) alloc: Global,
-    own: Own,
+    pub(crate) own: Own,
     pub(crate) asn: u32,
     pub(crate) seed: Seed,
     pub(crate) tree: Tree,
-    book: Book,
+    pub(crate) book: Book,
+    // The chain values of its first entries, as many as `link` has been asked for.
+    pub(crate) values: Vec<Digest>,
 }
 
 impl Model for Core {
     ghost use Rattle.std.specs.Prelude.{◌≡◌};
     ghost use Rattle.nr_spec_keys.specs.Trees.{tree_of};
     ghost use Rattle.nr_recorder.specs.Kept.{Kept};
-    ghost use Rattle.nr_recorder.specs.Views.{numbers_in};
+    ghost use Rattle.nr_recorder.specs.Links.{HasLinks};
+    ghost use Rattle.nr_recorder.specs.Views.{numbers_in, peers_of};
 
     ghost Value = { Kept };
 
     ghost view = { λ c. record {
       own = numbers_in c.own;
+      peers = peers_of c.own.typed.neighbours;
       key = record { asn = c.asn; height = c.tree.height; seed = c.seed.0 };
       log = c.book;
     } };
 
-    ghost invariant = { λ c. c.tree ≡ tree_of c.seed.0 c.tree.height };
+    ghost invariant = { λ c. (c.tree ≡ tree_of c.seed.0 c.tree.height) × HasLinks c.asn c.book c.values.items };
 }
 
 /// How many leaves a tree has.
@@ -98,6 +103,7 @@ impl Core {
         requires { tree ≡ tree_of seed.0 tree.height }
         ensures { IfOk result (λ core. core ≡ record {
           own = numbers_in own;
+          peers = peers_of own.typed.neighbours;
           key = record { asn = asn; height = tree.height; seed = seed.0 };
           log = [];
         }) }
@@ -110,6 +116,7 @@ impl Core {
             seed,
             tree,
             book,
+            values: Vec::new(alloc),
         })
     }
 
@@ -127,6 +134,7 @@ impl Core {
             seed,
             tree,
             book,
+            values,
         } = self;
         let content = entry.content.to_vec(alloc)?;
         let book = book.append(Owned::new(entry.time, entry.kind, content))?;
@@ -137,6 +145,34 @@ impl Core {
             seed,
             tree,
             book,
+            values,
+        })
+    }
+
+    /// The same core, which keeps the chain value of each of its entries: its frames then take no walk from the first entry.
+    /// After `Memory` the core is gone.
+    pub fn link(self) -> Result<Core, Memory>
+        requires { length self.log < 2 ^ 62 }
+        ensures { IfOk result (λ core. core ≡ self) }
+    {
+        let Core {
+            alloc,
+            own,
+            asn,
+            seed,
+            tree,
+            book,
+            values,
+        } = self;
+        let values = follow(asn, values, book.log())?;
+        Ok(Core {
+            alloc,
+            own,
+            asn,
+            seed,
+            tree,
+            book,
+            values,
         })
     }
 
@@ -200,6 +236,7 @@ impl Core {
             seed,
             tree,
             book,
+            values,
         } = self;
         let first = book.log().len() as u64 + 1;
         let commits = list_commits(alloc, own.numbers().count, heads, first)?;
@@ -211,6 +248,7 @@ impl Core {
             seed,
             tree,
             book,
+            values,
         };
         Ok((core, Out { commits }))
     }

@@ -5,8 +5,7 @@ ghost use Rattle.nr_spec_log.specs.Answer.{IsEntry};
 ghost use Rattle.nr_chain.specs.Views.{entry_of};
 
 use crate::signing::put_auth;
-use nr_answer::Auth;
-use nr_bytes::{Cursor, List, Memory, Place, put_bytes, put_u8, put_u16, put_u32, put_u64};
+use nr_bytes::{List, Memory, Place, put_bytes, put_u8, put_u16, put_u32, put_u64};
 use nr_chain::{Digest, Entry, Item, Walk, genesis, sha256};
 use nr_exchange::{Frame, Frames, seen_by, write_frame};
 use std::alloc::Global;
@@ -86,13 +85,10 @@ fn written(alloc: Global) -> Result<Vec<u8>, Fail> {
     let (before, _, second) = values();
     let mut auth = Vec::new(alloc);
     put_auth(alloc, 2, 6, &second.0, &mut auth)?;
-    let head = Auth::read(&mut Cursor::new(&auth))
-        .ok()
-        .ok_or("an authenticator")?;
     let mut items = List::new(alloc);
     items.push(Item::Shown(heard()))?;
     items.push(Item::Shown(commit()))?;
-    let text = write_frame(alloc, 64501, 64500, 0, 1, &before, &items, &head);
+    let text = write_frame(alloc, 64501, 64500, 0, 1, &before, &items, &auth);
     Ok(text.ok().ok_or("a frame that is written")?)
 }
 

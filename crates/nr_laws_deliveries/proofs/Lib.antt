@@ -1,0 +1,2 @@
+mod Acked
+mod Shown

@@ -1,0 +1,9 @@
+//! The laws of frames at a recorder: what its frames show, and what it acknowledges of the frames that come. The
+//! functions have no code: each is a theorem, which its contract states.
+#![tactic(auto)]
+
+mod acknowledging;
+mod sending;
+
+pub use acknowledging::{acknowledged_was_accepted, acknowledges_fairly};
+pub use sending::{frame_of_commit_is_signed_by_it, frame_shows_the_log};

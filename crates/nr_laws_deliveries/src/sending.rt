@@ -1,0 +1,21 @@
+//! What the frames of a recorder show.
+
+ghost use Rattle.std.specs.Prelude.{◌≡◌, ◌<◌, ◌≤◌, ℕ, List, length, take};
+ghost use Rattle.nr_spec_log.specs.Chain.{LogEntry, value_after};
+ghost use Rattle.nr_spec_history.specs.KeyFiles.{Key};
+ghost use Rattle.nr_spec_frames.specs.Showing.{Shows};
+ghost use Rattle.nr_spec_steps.specs.Heads.{log_chain};
+ghost use Rattle.nr_spec_deliveries.specs.Sending.{frame_for};
+
+/// A frame shows the neighbour the entries after `after` up to entry k of the log, and hides those that don't name it.
+pub fn frame_shows_the_log()
+    ensures { (key : Key) (to_as n : ℕ) (log : List LogEntry) (after k : ℕ) → after < k → k ≤ length log
+        → Shows n log after k (frame_for key to_as n log after k) }
+{}
+
+/// The authenticator of a frame states the number and the chain value of its last entry.
+pub fn frame_of_commit_is_signed_by_it()
+    ensures { (key : Key) (to_as n : ℕ) (log : List LogEntry) (after k : ℕ) → k ≤ length log
+        → ((frame_for key to_as n log after k).auth.seq ≡ k)
+        × ((frame_for key to_as n log after k).auth.hash ≡ value_after (log_chain key.asn) (take k log)) }
+{}
