@@ -1,6 +1,6 @@
 -- What stands before the entries of an answer.
-use Rattle.std.specs.Prelude.{◌≡◌, ◌≤◌, ℕ, List, None, Ok, Option, Some}
-use Rattle.nr_spec_log.specs.Answer.{AnswerFile, most_first}
+use Rattle.std.specs.Prelude.{◌≡◌, ℕ, List, None, Ok, Option, Some}
+use Rattle.nr_spec_log.specs.Answer.{AnswerFile, IsCheckpointFirst}
 use Rattle.nr_spec_routes.specs.Keys.{AreAscending, Row}
 use Rattle.nr_spec_report.specs.Wrong.{Base, nothing_before}
 use Rattle.nr_spec_bodies.specs.Reading.{base_of}
@@ -25,8 +25,9 @@ pub record IsStatedBy (body : Option (List ℕ)) (state : List Row) (counts : Ke
   pub of : IsBaseOf body base
   pub state_of : IsStateOf base state counts
 
--- they are what stands before the entries of this answer
+-- They are what stands before the entries of this answer, which begins with a checkpoint where it has a body.
 pub record StandsBefore (answer : AnswerFile) (state : List Row) (counts : Kept) : Type 0 where
   pub base : Base
   pub based : base_by answer.body answer.entries ≡ Ok base
   pub state_of : IsStateOf base state counts
+  pub checkpoint : (body : List ℕ) → answer.body ≡ Some body → IsCheckpointFirst answer.entries

@@ -1,1 +1,3 @@
 pub mod Before
+pub mod Views
+pub mod Answers

@@ -2,6 +2,7 @@
 
 ghost use Rattle.std.specs.Prelude.{◌≡◌, ◌≤◌, ◌+◌, IfOk, Ok, length};
 ghost use Rattle.std.specs.Option.{option_map};
+ghost use Rattle.nr_spec_wire.specs.Reading.{IsBytes};
 ghost use Rattle.nr_spec_log.specs.Answer.{body_offset};
 ghost use Rattle.nr_spec_report.specs.Wrong.{Base};
 ghost use Rattle.nr_spec_bodies.specs.Reading.{base_of};
@@ -13,6 +14,7 @@ use crate::front::{read_first_time, read_front};
 use nr_answer::Answer;
 use nr_bytes::{Cursor, Place};
 use nr_discipline::{Counts, DecodeError, decode};
+use nr_laws_log::answer_file_found;
 use nr_tables::State;
 use std::alloc::Global;
 
@@ -67,9 +69,14 @@ fn read_before(alloc: Global, body: Option<&[u8]>) -> Result<(State, Counts, u64
     }
 }
 
+// Bytes are bytes.
+fn are_bytes(bytes: &[u8])
+    ensures { IsBytes bytes.now }
+{}
+
 /// An answer and what stands before its entries, or the first malformed field of the file, where a field inside the body
 /// counts once all of the body is there. The blocks of the body are copied once, into the state; nothing else is.
-#[tactic(auto, unfolding(nr_spec_slices::specs::Reading::slice_of))]
+#[tactic(auto, using(crate::proofs::Before::stands), unfolding(nr_spec_slices::specs::Reading::slice_of))]
 pub fn read_slice<'a>(alloc: Global, bytes: &'a [u8]) -> Result<Slice<'a>, DecodeError>
     ensures value { Answered (λ slice. slice.answer) result (slice_of bytes.now) }
     ensures before { IfOk result (λ slice. StandsBefore slice.answer slice.state slice.counts) }
@@ -79,6 +86,8 @@ pub fn read_slice<'a>(alloc: Global, bytes: &'a [u8]) -> Result<Slice<'a>, Decod
     let (state, counts, last) = read_before(alloc, body)?;
     read_first_time(&mut cursor, last)?;
     let answer = Answer::read(bytes)?;
+    are_bytes(bytes);
+    answer_file_found();
     Ok(Slice {
         answer,
         state,
