@@ -1,5 +1,5 @@
 -- What stands before an answer that was read.
-use Rattle.std.proofs.Common.{◌≡◌, ℕ, zero, suc, ◌<◌, ◌^◌, arith, [], List, Option, Some, None, Result, Ok, true, refl, sym, ap, subst, ◌∙◌}
+use Rattle.std.proofs.Common.{◌≡◌, ℕ, zero, suc, ◌<◌, ◌^◌, arith, [], List, Option, Some, None, Ok, true, refl, sym, ap, subst, ◌∙◌}
 use Rattle.nr_spec_wire.specs.Reading.{Spot, start_of}
 use Rattle.nr_spec_wire.proofs.Steps.{ok_is}
 use Rattle.nr_spec_log.specs.Chain.{LogEntry}

@@ -1,5 +1,5 @@
 -- The place of a fault inside a body is at most the body's length.
-use Rattle.std.proofs.Common.{◌≡◌, ℕ, zero, suc, ◌+◌, ◌-◌, ◌*◌, ◌≤◌, ◌<◌, ◌^◌, ◌==◌, Bool, true, false, List, [], ◌∷◌, length, drop, take, Option, Some, None, Result, Ok, Err, refl, sym, ap, subst, ◌∙◌, arith, cond, ltb, inl, inr}
+use Rattle.std.proofs.Common.{◌≡◌, ℕ, zero, suc, ◌+◌, ◌-◌, ◌≤◌, ◌==◌, Bool, true, false, List, [], length, drop, Option, Some, None, Result, Ok, Err, subst, arith, cond, inl, inr}
 use Rattle.std.specs.Prelude.{nat_le, nat_lt, replicate}
 use Rattle.std.specs.Str.{bytes_eq}
 use Rattle.nr_spec_bounds.specs.Bounds.{most_counted}
@@ -8,10 +8,9 @@ use Rattle.std.proofs.lemmas.List.{length-drop}
 use Rattle.nr_spec_wire.specs.Reading.{Read, Spot, ◌>>=◌, bytes_at, ends_at, number_at, past, start_of, wants}
 use Rattle.nr_spec_log.specs.Authenticator.{digest_size}
 use Rattle.nr_spec_entry.specs.Contents.{most_delay, most_neighbours}
-use Rattle.nr_spec_bgp.specs.Attributes.{AttributeBlock, attributes_in, is_complete}
+use Rattle.nr_spec_bgp.specs.Attributes.{attributes_in, is_complete}
 use Rattle.nr_spec_bgp.specs.Prefixes.{faults_at}
-use Rattle.nr_spec_routes.specs.Keys.{Key, Row}
-use Rattle.nr_spec_report.specs.Wrong.{Base}
+use Rattle.nr_spec_routes.specs.Keys.{Key}
 use Rattle.nr_spec_bodies.specs.Reading.{base_of, force_at, is_behind, is_flagged, is_masked, key_at, known_at, route_at, row_at, rows_behind, set_force_at, table_at, tally_at, times_at, unset_force_at}
 
 -- the bytes from here end there

@@ -1,6 +1,6 @@
 -- What a body states.
-use Rattle.std.proofs.Common.{◌≡◌, ℕ, ◌+◌, List, Option, Some, None, Result, Ok, Err, refl, sym, ap, ◌∙◌}
-use Rattle.nr_spec_wire.specs.Reading.{Spot, ◌>>=◌, number_at, start_of, wants, ends_at}
+use Rattle.std.proofs.Common.{◌≡◌, ℕ, ◌+◌, List, Some, Result, Ok, Err, refl, sym, ap, ◌∙◌}
+use Rattle.nr_spec_wire.specs.Reading.{Spot, ◌>>=◌, number_at, start_of, wants}
 use Rattle.nr_spec_wire.proofs.Steps.{ok_is, wants_ok}
 use Rattle.nr_spec_log.specs.Answer.{body_offset}
 use Rattle.nr_spec_entry.specs.Contents.{most_neighbours}

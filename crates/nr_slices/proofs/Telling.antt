@@ -1,5 +1,5 @@
 -- What is told of a slice is what its audit gives.
-use Rattle.std.proofs.Common.{◌≡◌, ℕ, List, [], ◌∷◌, Option, Some, None, Result, Ok, Err, length, refl, sym, ap, subst, ◌∙◌}
+use Rattle.std.proofs.Common.{◌≡◌, ℕ, List, Option, Some, None, Result, Ok, Err, sym, ap, subst, ◌∙◌}
 use Rattle.std.specs.Prelude.{option_map}
 use Rattle.nr_spec_log.specs.Authenticator.{Authenticator}
 use Rattle.nr_spec_log.specs.Answer.{AnswerFile}
@@ -11,7 +11,6 @@ use Rattle.nr_spec_outcome.specs.Outcome as outcome
 use Rattle.nr_spec_outcome.specs.Outcome.{Audited, outcome_over}
 use Rattle.nr_spec_slices.specs.Late as spec_late
 use Rattle.nr_spec_slices.specs.Late.{late_fact}
-use Rattle.nr_spec_slices.specs.Audits as slices
 use Rattle.nr_spec_slices.specs.Audits.{base_by, outcome_by, outcome_of, with_late}
 use Rattle.nr_audit.specs.Answers.{Answers}
 use Rattle.nr_audit.specs.declared.report.Report.{Report}

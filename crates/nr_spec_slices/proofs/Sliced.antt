@@ -1,6 +1,6 @@
 -- What an answer has whose file was read and its body looked into.
-use Rattle.std.proofs.Common.{◌≡◌, ℕ, zero, suc, ◌+◌, Bool, true, false, List, [], ◌∷◌, length, Option, Some, None, Result, Ok, Err, refl, sym, ap, subst, ◌∙◌}
-use Rattle.std.specs.Prelude.{nat_le, nat_lt}
+use Rattle.std.proofs.Common.{◌≡◌, ℕ, zero, suc, Bool, true, false, List, [], ◌∷◌, Option, Some, None, Result, Ok, Err, refl, sym, ap, subst, ◌∙◌}
+use Rattle.std.specs.Prelude.{nat_le}
 use Rattle.nr_spec_wire.specs.Reading.{Spot, ◌>>=◌, bytes_at, number_at, start_of, wants}
 use Rattle.nr_spec_wire.proofs.Steps.{bind_ok, ok_is, wants_ok}
 use Rattle.nr_spec_log.specs.Chain.{LogEntry}
@@ -8,7 +8,7 @@ use Rattle.nr_spec_log.specs.Authenticator.{digest_size, magic_at, wanted_at}
 use Rattle.nr_spec_log.specs.Answer.{AnswerFile, Opening, answer_from, answer_magic, answer_of, body_at, entries_at, entry_at, head_of, is_body_flag, is_first, is_later, is_prev, is_wanted, checkpoint_kind, opening_at}
 use Rattle.nr_spec_report.specs.Wrong.{Base, nothing_before}
 use Rattle.nr_spec_bodies.specs.Reading.{base_of}
-use Rattle.nr_spec_slices.specs.Audits.{base_by, is_in_time, stated}
+use Rattle.nr_spec_slices.specs.Audits.{base_by, is_in_time}
 use Rattle.nr_spec_slices.specs.Reading.{first_time_at, front_at, last_before, last_in, slice_of}
 
 -- what a step gave, where it went well and so did what goes on after it

@@ -1,5 +1,5 @@
-use Rattle.std.proofs.Common.{◌≡◌, Result, Err, ℕ, subst}
-use Rattle.nr_spec_wire.specs.Reading.{Spot, number_at, start_of}
+use Rattle.std.proofs.Common.{◌≡◌, Err, subst}
+use Rattle.nr_spec_wire.specs.Reading.{Spot, number_at}
 use Rattle.nr_slices.proofs.Stated.{last_missing}
 use Rattle.nr_slices.proofs.reading.last_time.Goals as goal
 
