@@ -204,8 +204,25 @@ pub const SENTENCES: &[Sentence] = &[
         status: 7,
         line: "refused form ",
         least: 0,
-        means: "The answer begins after entry 1. Such answers aren't audited.",
-        next: "Ask the network for the answer of its whole log.",
+        means: "The answer in the evidence begins after entry 1. Such evidence isn't judged yet.",
+        next: "Ask for evidence of an audit of the whole log.",
+    },
+    Sentence {
+        status: 7,
+        line: "refused late ",
+        least: 100,
+        means: "The answer begins at a checkpoint, and what it says of the routes before isn't what the \
+            checkpoint signs:\nthe line has the digests of both.",
+        next: "Ask the network for its answer again. As it is, it is no answer of this network.",
+    },
+    Sentence {
+        status: 7,
+        line: "refused late ",
+        least: 0,
+        means: "The answer begins at a checkpoint that isn't before the period, so it may leave out entries \
+            of the period.",
+        next: "Ask for an answer from an earlier checkpoint, or audit from a time above the checkpoint's: it is \
+            the first number.",
     },
     Sentence {
         status: 7,

@@ -1,6 +1,7 @@
 -- What this crate's types stand for in the definitions.
 use Rattle.std.specs.Prelude.{◌≡◌, ℕ, List, Result, Ok, Err, option_map}
 use Rattle.nr_spec_outcome.specs.Outcome as outcome
+use Rattle.nr_spec_slices.specs.Late as slices
 use Rattle.nr_chain.specs.Views.{digest_bytes}
 use Rattle.nr_lamport.specs.declared.seed.Seed.{Seed}
 use Rattle.nr_spec_plans.specs.Disk as disk
@@ -28,6 +29,8 @@ use Rattle.nr_command_parts.specs.declared.input.Input.{Input}
 use Rattle.nr_command_parts.specs.declared.input.Input.TheVariants as input
 use Rattle.nr_command_parts.specs.declared.refusal.Fact.{Fact}
 use Rattle.nr_command_parts.specs.declared.refusal.Fact.TheVariants as fact
+use Rattle.nr_command_parts.specs.declared.refusal.Late as declared_late
+use Rattle.nr_command_parts.specs.declared.refusal.Late.TheVariants as late
 use Rattle.nr_command_parts.specs.declared.refusal.LogFact.{LogFact}
 use Rattle.nr_command_parts.specs.declared.refusal.LogFact.TheVariants as log_fact
 use Rattle.nr_command_parts.specs.declared.refusal.Refusal.{Refusal}
@@ -54,6 +57,10 @@ fact_of (fact.Head head chain) = outcome.Head head.0 chain.0
 fact_of (fact.Short head to) = outcome.Short head to
 fact_of (fact.Promise found file) = outcome.Promise (option_map digest_bytes found) file.0
 
+abbrev pub late_of : declared_late.Late → slices.Late
+late_of (late.Time checkpoint from) = slices.Time checkpoint from
+late_of (late.Body body entry) = slices.Body body.0 entry.0
+
 abbrev pub log_fact_of : LogFact → command.LogFact
 log_fact_of (log_fact.OtherNetwork found wanted) = command.OtherNetwork found wanted
 log_fact_of (log_fact.OtherRoot found wanted) = command.OtherRoot found.0 wanted.0
@@ -68,6 +75,7 @@ refusal_of (refusal.NoFile i) = command.NoFile (input_of i)
 refusal_of (refusal.Limit i found) = command.Limit (input_of i) found
 refusal_of (refusal.Malformed i place) = command.Malformed (input_of i) place.0
 refusal_of (refusal.Refused f) = command.Refused (fact_of f)
+refusal_of (refusal.LateStart l) = command.LateStart (late_of l)
 refusal_of (refusal.Prevented f) = command.Prevented (log_fact_of f)
 refusal_of (refusal.LongEvidence found) = command.LongEvidence found
 

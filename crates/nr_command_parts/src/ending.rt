@@ -8,12 +8,12 @@ ghost use Rattle.nr_spec_steps.specs.Telling.{most_raw};
 ghost use Rattle.std.specs.String.{string_bytes};
 ghost use Rattle.nr_chain.specs.Views.{digest_bytes};
 ghost use Rattle.nr_spec_plans.specs.Disk as disk;
-ghost use Rattle.nr_spec_program.specs.Command.{usage_ending, digest_word, log_fact_words, refusal_ending, fault_ending};
-ghost use Rattle.nr_command_parts.specs.Views.{log_fact_of, refusal_of};
+ghost use Rattle.nr_spec_program.specs.Command.{usage_ending, digest_word, late_words, log_fact_words, refusal_ending, fault_ending};
+ghost use Rattle.nr_command_parts.specs.Views.{late_of, log_fact_of, refusal_of};
 ghost use Rattle.nr_command_parts.specs.Endings.{fixed_of, ending_of};
 
 use crate::input::{Input, limit_of, name_of};
-use crate::refusal::{Fact, LogFact, Refusal};
+use crate::refusal::{Fact, Late, LogFact, Refusal};
 use nr_chain::Digest;
 use std::alloc::{AllocError, Global};
 
@@ -109,6 +109,20 @@ fn fact_ending(alloc: Global, fact: Fact) -> Result<Ending, AllocError>
     })
 }
 
+// The line of a checkpoint that is late, or of another body.
+fn late_line(alloc: Global, late: Late) -> Result<String, AllocError>
+    ensures { IfOk result (λ text. string_bytes text ≡ line (codes "refused" ∷ late_words (late_of late))) }
+{
+    match late {
+        Late::Time { checkpoint, from } => format!(in alloc; "refused late {checkpoint} {from}\n"),
+        Late::Body { body, entry } => {
+            let body = hex::encode(alloc, body.0.as_slice())?;
+            let entry = hex::encode(alloc, entry.0.as_slice())?;
+            format!(in alloc; "refused late {body} {entry}\n")
+        }
+    }
+}
+
 // The longest message that an entry has room for, in bytes.
 fn most_raw() -> u64
     ensures { result ≡ most_raw }
@@ -197,6 +211,13 @@ pub fn refused(alloc: Global, refusal: Refusal) -> Result<Ending, AllocError>
             })
         }
         Refusal::Refused(fact) => fact_ending(alloc, fact),
+        Refusal::LateStart(late) => {
+            let text = late_line(alloc, late)?;
+            Ok(Ending {
+                status: 7,
+                text: text.into_bytes(),
+            })
+        }
         Refusal::Prevented(fact) => log_fact_ending(alloc, fact),
         Refusal::LongEvidence(found) => {
             let text = limit_line(alloc, "evidence", found, limit_of(Input::Evidence))?;

@@ -18,6 +18,6 @@ pub use key::Key;
 pub use key_file::read_key_file;
 pub use log_file::{born, has_root, is_of_network, read_log, same_network};
 pub use promise_file::PromiseFile;
-pub use reading::{read_answer, read_auths, read_input, read_promise, read_seed};
-pub use refusal::{Fact, LogFact, Refusal, Stop};
+pub use reading::{read_auths, read_input, read_promise, read_seed};
+pub use refusal::{Fact, Late, LogFact, Refusal, Stop};
 pub use writing::write_file;

@@ -2,7 +2,6 @@
 
 ghost use Rattle.std.specs.Prelude.{◌≤◌, length};
 ghost use Rattle.nr_spec_wire.specs.Reading.{Answers};
-ghost use Rattle.nr_spec_log.specs.Answer.{answer_of};
 ghost use Rattle.nr_spec_log.specs.Authenticator.{auths_of};
 ghost use Rattle.nr_spec_history.specs.KeyFiles.{seed_of};
 ghost use Rattle.nr_bytes.specs.Views.{offset_of};
@@ -11,7 +10,6 @@ ghost use Rattle.nr_spec_program.specs.Command.{
   load,
   promise_plan,
   well_formed,
-  AnswerInput,
   AuthsInput,
   PromiseInput,
   SeedInput,
@@ -21,7 +19,7 @@ ghost use Rattle.nr_command_parts.specs.Views.{input_of, promise_file_of, seed_b
 use crate::input::{Input, limit_of};
 use crate::promise_file::PromiseFile;
 use crate::refusal::{Refusal, Stop};
-use nr_answer::{Answer, Auths};
+use nr_answer::Auths;
 use nr_bytes::{Cursor, Place};
 use nr_chain::sha256;
 use nr_lamport::Seed;
@@ -74,16 +72,6 @@ pub fn read_promise<F: Files>(alloc: Global, files: &mut F, name: &str) -> Resul
 {
     let text = read_input(alloc, files, Input::Promise, name)?;
     promise_from(alloc, text)
-}
-
-/// What an answer file holds.
-pub fn read_answer<'a>(bytes: &'a [u8]) -> Result<Answer<'a>, Refusal>
-    ensures { Settles (λ answer. answer) result (well_formed AnswerInput (answer_of bytes.now)) }
-{
-    match Answer::read(bytes) {
-        Ok(answer) => Ok(answer),
-        Err(place) => Err(Refusal::Malformed(Input::Answer, place)),
-    }
 }
 
 /// What an authenticator file holds.

@@ -34,6 +34,15 @@ pub enum Fact {
     Promise { found: Option<Digest>, file: Digest },
 }
 
+/// What an answer that starts at a checkpoint is refused for besides.
+#[derive(Clone, Copy, Debug)]
+pub enum Late {
+    /// The checkpoint's time, in microseconds, isn't before the period.
+    Time { checkpoint: u64, from: u64 },
+    /// The digest of the body isn't the one that the checkpoint holds.
+    Body { body: Digest, entry: Digest },
+}
+
 /// What refuses a recording, or an answer of a log, with the values that show it.
 #[derive(Clone, Copy, Debug)]
 pub enum LogFact {
@@ -64,6 +73,8 @@ pub enum Refusal {
     Malformed(Input, Place),
     /// What the files say refuses the audit, or the evidence.
     Refused(Fact),
+    /// The checkpoint with which the answer starts is late, or is of another body.
+    LateStart(Late),
     /// What the files say refuses the recording, or the answer.
     Prevented(LogFact),
     /// The evidence would have so many bytes, which is more than it may have.

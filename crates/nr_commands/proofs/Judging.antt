@@ -1,24 +1,34 @@
 -- An audit by one promise file.
-use Rattle.std.proofs.Common.{◌≡◌, ℕ, ◌≤◌, List, [], ◌∷◌, Bool, true, length, sym, subst, ap}
-use Rattle.std.proofs.lemmas.Bool.{ne_eqb}
-use Rattle.nr_spec_log.specs.Answer.{AnswerFile}
+use Rattle.std.proofs.Common.{◌≡◌, ℕ, ◌≤◌, List, [], ◌∷◌, true, length, Result, Err, refl, sym, subst}
 use Rattle.nr_spec_log.specs.Authenticator.{Authenticator}
-use Rattle.nr_spec_history.specs.Conflicts.{Period}
-use Rattle.nr_spec_report.specs.Wrong.{nothing_before}
-use Rattle.nr_spec_truth.specs.Truths.{is_known, meant}
-use Rattle.nr_spec_outcome.specs.Outcome.{Audited, Form, holds_or, outcome, outcome_over, promise_files}
-use Rattle.nr_spec_plans.specs.Plans.{Refuse}
+use Rattle.nr_spec_truth.specs.Truths.{is_known}
+use Rattle.nr_spec_outcome.specs.Outcome.{Audited, promise_files}
+use Rattle.nr_spec_outcome.specs.Report as spec
+use Rattle.nr_spec_slices.specs.Audits as slices
+use Rattle.nr_audit.specs.Views.{report_of}
+use Rattle.nr_audit.specs.declared.refusal.Refusal.TheVariants as unaudited
+use Rattle.nr_slices.specs.declared.late.Late.TheVariants as found
+use Rattle.nr_slices.specs.declared.auditing.SliceRefusal.{SliceRefusal}
+use Rattle.nr_slices.specs.declared.auditing.SliceRefusal.TheVariants.{Audit, Late}
+use Rattle.nr_slices.specs.Answers.{Tells}
+use Rattle.nr_command_parts.specs.declared.refusal.Stop.{Stop}
+use Rattle.nr_command_parts.specs.Views.{Judges}
+use Rattle.nr_commands.specs.Unaudited.{unsliced_of}
 use Rattle.nr_spec_texts.specs.Promises.{PromiseFile, audited_by}
-use Rattle.nr_spec_program.specs.Command.{Refused, concluded, judged}
+use Rattle.nr_spec_program.specs.Command.{concluded}
 use Rattle.nr_judging.specs.Views.{AreFew, AreKnown}
 use Rattle.nr_judging.proofs.Known as known
 
-pub form_refuses : (root : List ℕ) (promise : PromiseFile) (answer : AnswerFile) (period : Period) (auths : List Authenticator) → (answer.first ≡ 1 → ⊥)
-    → judged root promise answer period auths ≡ Refuse (Refused Form)
-unfolding outcome
-form_refuses root promise answer period auths other =
-    let files = audited_by promise ∷ [] in
-    ap (λ (b : Bool). concluded (holds_or b Form (outcome_over root files (meant (promise.says ∷ [])) nothing_before answer period auths))) (ne_eqb answer.first 1 other)
+-- what an audit tells is what the plan concludes
+pub told_stops : (auths : List Authenticator) (fault : SliceRefusal) (o : Result spec.Report slices.Refusal) (s : Stop) → Tells auths (Err fault) o → s ≡ unsliced_of fault → Judges (report_of auths) (Err s) (concluded o)
+told_stops auths (Audit (unaudited.Network answer promise)) o s is same = rw (same, is) refl
+told_stops auths (Audit unaudited.Unsigned) o s is same = rw (same, is) refl
+told_stops auths (Audit (unaudited.Head head chain)) o s is same = rw (same, is) refl
+told_stops auths (Audit (unaudited.Short head to)) o s is same = rw (same, is) refl
+told_stops auths (Audit (unaudited.Promise found file)) o s is same = rw (same, is) refl
+told_stops auths (Audit unaudited.Memory) o s is same = rw same tt
+told_stops auths (Late (found.Time checkpoint from)) o s is same = rw (same, is) refl
+told_stops auths (Late (found.Body body entry)) o s is same = rw (same, is) refl
 
 -- the promises of the one file are known, and few
 pub one_known : (audited : Audited) (promise : PromiseFile) → audited ≡ audited_by promise

@@ -1,3 +1,4 @@
+pub mod AuditStops
 pub mod Judging
 pub mod ReportLemmas
 pub mod ClaimLemmas

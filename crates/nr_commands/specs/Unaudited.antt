@@ -1,6 +1,10 @@
 -- Why an audit that gives no report ends a command.
 use Rattle.nr_audit.specs.declared.refusal.Refusal as declared_unaudited
 use Rattle.nr_audit.specs.declared.refusal.Refusal.TheVariants as unaudited
+use Rattle.nr_slices.specs.declared.late.Late.TheVariants as found
+use Rattle.nr_slices.specs.declared.auditing.SliceRefusal as declared_unsliced
+use Rattle.nr_slices.specs.declared.auditing.SliceRefusal.TheVariants as unsliced
+use Rattle.nr_command_parts.specs.declared.refusal.Late.TheVariants as late
 use Rattle.nr_command_parts.specs.declared.refusal.Fact.{Fact}
 use Rattle.nr_command_parts.specs.declared.refusal.Fact.TheVariants as fact
 use Rattle.nr_command_parts.specs.declared.refusal.Refusal.TheVariants as refusal
@@ -18,3 +22,9 @@ unaudited_of (unaudited.Head head chain) = by_fact (fact.Head head chain)
 unaudited_of (unaudited.Short head to) = by_fact (fact.Short head to)
 unaudited_of (unaudited.Promise found file) = by_fact (fact.Promise found file)
 unaudited_of unaudited.Memory = stop.Memory
+
+-- the same of an audit by what stands before the answer
+abbrev pub unsliced_of : declared_unsliced.SliceRefusal → Stop
+unsliced_of (unsliced.Audit fault) = unaudited_of fault
+unsliced_of (unsliced.Late (found.Time checkpoint from)) = stop.Refused (refusal.LateStart (late.Time checkpoint from))
+unsliced_of (unsliced.Late (found.Body body entry)) = stop.Refused (refusal.LateStart (late.Body body entry))

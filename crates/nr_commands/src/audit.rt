@@ -1,30 +1,32 @@
 //! The command `audit`: what an answer shows of a network, and where it contradicts the authenticators that were handed
 //! in. Evidence of that is saved where it is asked for.
 
-ghost use Rattle.std.specs.Prelude.{◌≡◌, ◌<◌, ◌≤◌, length};
+ghost use Rattle.std.specs.Prelude.{◌≡◌, ◌<◌, ◌≤◌, IfOk, length};
 ghost use Rattle.nr_spec_texts.specs.Promises.{audited_by};
 ghost use Rattle.nr_spec_evidence.specs.Evidence.{most_answer};
-ghost use Rattle.nr_spec_program.specs.Command.{audit_plan, evidence_of_report, evidence_plan, judged};
+ghost use Rattle.nr_spec_slices.specs.Reading.{slice_of};
+ghost use Rattle.nr_spec_program.specs.Command.{AnswerInput, audit_plan, evidence_of_report, evidence_plan, judged, well_formed};
 ghost use Rattle.nr_evidence.specs.Views.{period_of};
 ghost use Rattle.nr_audit.specs.Views.{audited_of, report_of};
-ghost use Rattle.nr_commands.specs.Unaudited.{unaudited_of};
+ghost use Rattle.nr_slices.specs.Before.{StandsBefore};
+ghost use Rattle.nr_commands.specs.Unaudited.{unaudited_of, unsliced_of};
 ghost use Rattle.nr_command_parts.specs.Views.{Does, Judges as Settled, promise_file_of};
 ghost use Rattle.nr_requests.specs.Views.{audit_request_of};
 ghost use Rattle.nr_command_parts.specs.Endings.{ending_of};
 
 use crate::claims::claims_of;
 use crate::report::report_ending;
-use nr_answer::{Answer, Auths};
+use nr_answer::Auths;
 use nr_audit::{Audited, Refusal as Unaudited, Report};
 use nr_command_parts::{
-    Ending, Fact, Input, PromiseFile, Refusal, Stop, read_answer, read_auths, read_input,
-    read_promise,
+    Ending, Fact, Input, Late, PromiseFile, Refusal, Stop, read_auths, read_input, read_promise,
 };
-use nr_discipline::FileNumbers;
+use nr_discipline::{DecodeError, FileNumbers};
 use nr_ports::Files;
 use nr_requests::AuditRequest;
 use nr_rule_eval::Judges;
 use nr_saving::save_evidence;
+use nr_slices::{Late as LateSlice, Slice, SliceRefusal, audit_slice, read_slice};
 use nr_steps::Steps;
 use std::alloc::Global;
 use std::marker::Brand;
@@ -64,41 +66,66 @@ fn unaudited(fault: Unaudited) -> Stop
     }
 }
 
+// The same of an audit by what stands before the answer.
+fn unsliced(fault: SliceRefusal) -> Stop
+    ensures { result ≡ unsliced_of fault }
+{
+    match fault {
+        SliceRefusal::Audit(fault) => unaudited(fault),
+        SliceRefusal::Late(LateSlice::Time { checkpoint, from }) => {
+            Stop::from(Refusal::LateStart(Late::Time { checkpoint, from }))
+        }
+        SliceRefusal::Late(LateSlice::Body { body, entry }) => {
+            Stop::from(Refusal::LateStart(Late::Body { body, entry }))
+        }
+    }
+}
+
+// What an answer file holds, and what stands before the answer's entries.
+fn read_answer<'a>(alloc: Global, bytes: &'a [u8]) -> Result<Slice<'a>, Stop>
+    ensures value { Settled (λ slice. slice.answer) result (well_formed AnswerInput (slice_of bytes.now)) }
+    ensures before { IfOk result (λ slice. StandsBefore slice.answer slice.state slice.counts) }
+{
+    match read_slice(alloc, bytes) {
+        Ok(slice) => Ok(slice),
+        Err(DecodeError::At(place)) => { Err(Stop::from(Refusal::Malformed(Input::Answer, place))) }
+        Err(DecodeError::Memory) => Err(Stop::Memory),
+    }
+}
+
 // What an answer shows by a promise file, whose judge counts on a ledger of its own.
-#[tactic(auto, using(crate::proofs::Judging::one_known, crate::proofs::Judging::one_few))]
+#[tactic(auto, using(crate::proofs::Judging::one_known, crate::proofs::Judging::one_few, crate::proofs::Judging::told_stops))]
 fn judge_on<L: Ledger>(
     alloc: Global,
     request: &AuditRequest<'_>,
     promise: &PromiseFile,
-    answer: &Answer<'_>,
+    slice: Slice<'_>,
     auths: &Auths<'_>,
     blank: Blank,
 ) -> Result<Report, Stop>
+    requires before { StandsBefore slice.answer slice.state slice.counts }
     requires name { blank.name ≡ L.name }
     requires parts { blank.parts ≡ L.parts }
     requires some { 0 < L.parts }
-    ensures { Settled (report_of auths.now) result (judged request.now.root.0 (promise_file_of promise.now) answer.now
-        (period_of request.now.period) auths.now) }
+    ensures { Settled (report_of auths.now) result (judged request.now.root.0 (promise_file_of promise.now)
+        slice.entry.answer (period_of request.now.period) auths.now) }
 {
-    if answer.first() != 1 {
-        return Err(Stop::Refused(Refusal::Refused(Fact::Form)));
-    }
     let files = [audited_by(promise)];
     let texts = [&promise.says];
     let judge = Judges { typed: &texts };
     let mut steps = Steps::<L>::new(blank);
-    match nr_audit::audit(
+    match audit_slice(
         alloc,
         &request.root,
         &files,
-        answer,
+        slice,
         auths,
         &request.period,
         &judge,
         &mut steps,
     ) {
         Ok(report) => Ok(report),
-        Err(fault) => Err(unaudited(fault)),
+        Err(fault) => Err(unsliced(fault)),
     }
 }
 
@@ -107,13 +134,14 @@ fn judge(
     alloc: Global,
     request: &AuditRequest<'_>,
     promise: &PromiseFile,
-    answer: &Answer<'_>,
+    slice: Slice<'_>,
     auths: &Auths<'_>,
 ) -> Result<Report, Stop>
-    ensures { Settled (report_of auths.now) result (judged request.now.root.0 (promise_file_of promise.now) answer.now
-        (period_of request.now.period) auths.now) }
+    requires { StandsBefore slice.answer slice.state slice.counts }
+    ensures { Settled (report_of auths.now) result (judged request.now.root.0 (promise_file_of promise.now)
+        slice.entry.answer (period_of request.now.period) auths.now) }
 {
-    judge_on::<Brand>(alloc, request, promise, answer, auths, Blank::new(1))
+    judge_on::<Brand>(alloc, request, promise, slice, auths, Blank::new(1))
 }
 
 // Saves the evidence of a report, where it is asked for. All memory is taken before the file is cut.
@@ -163,10 +191,10 @@ pub fn audit<F: Files>(
 {
     let promise = read_promise(alloc, files, request.promise)?;
     let answer_bytes = read_input(alloc, files, Input::Answer, request.answer)?;
-    let answer = read_answer(&answer_bytes)?;
+    let slice = read_answer(alloc, &answer_bytes)?;
     let auths_bytes = read_input(alloc, files, Input::Auths, request.auths)?;
     let auths = read_auths(&auths_bytes)?;
-    let report = judge(alloc, request, &promise, &answer, &auths)?;
+    let report = judge(alloc, request, &promise, slice, &auths)?;
     let ending = report_ending(alloc, &[audited_by(&promise)], &report, &auths)?;
     save_report(
         alloc,

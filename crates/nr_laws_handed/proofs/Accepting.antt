@@ -20,8 +20,9 @@ use Rattle.nr_spec_program.specs.Causes.{Answered, EndsAs, NoneRose, ended}
 use Rattle.nr_laws_words.specs.Commands.{Asks}
 use Rattle.nr_laws_program.proofs.FileLaws.{run_ends_as, run_ends_by}
 use Rattle.nr_laws_verify.specs.Audits as audits
-use Rattle.nr_laws_handed.specs.Handed.{Accepts, HoldsBytes, IsHanded, LeavesEvidence, accepted_ending, audit_of, evidence_by}
+use Rattle.nr_laws_handed.specs.Handed.{Accepts, HoldsBytes, HoldsWhole, IsHanded, LeavesEvidence, accepted_ending, audit_of, evidence_by}
 use Rattle.nr_laws_handed.proofs.Left.{run_leaves}
+use Rattle.nr_laws_handed.proofs.Whole.{shown_whole}
 use Rattle.nr_laws_handed.proofs.Periods.{InOrder, asked_in_order}
 use Rattle.nr_laws_handed.proofs.Values.{all_accepted}
 
@@ -63,11 +64,11 @@ given_is : (q : AuditRequest) (r : VerifyRequest) (name : List ℕ) (t : disk.To
 given_is q r name t new start e left handed =
     handed.same ∙ (ap (λ (u : disk.Told). u.holds name) (one_told new.told handed.written left.now handed.left_tells left.told) ∙ left.saved.holds)
 
-handed_gives : Accepted → (q : AuditRequest) (r : VerifyRequest) (name : List ℕ) (t : disk.Told) (new start : disk.Disk) (e : Ending) → HoldsBytes t.holds q → InOrder q.period
+handed_gives : Accepted → (q : AuditRequest) (r : VerifyRequest) (name : List ℕ) (t : disk.Told) (new start : disk.Disk) (e : Ending) → HoldsBytes t.holds q → HoldsWhole t.holds q → InOrder q.period
     → (left : LeavesEvidence q name t new e) (handed : IsHanded q r name new start) → outcome handed.found.holds (plan_of (Verify r)) ≡ Ok (accepted_ending (claims_of left.report))
-handed_gives accepted q r name t new start e bytes order left handed =
+handed_gives accepted q r name t new start e bytes whole order left handed =
     let fits = eight q.period.from q.period.to order.order order.small in
-    let accepts = accepted (audit_of t.holds q) left.report (record { answer = bytes.answer; auths = bytes.auths; from = fits.0; to = fits.1 }) left.by left.room order.order in
+    let accepts = accepted (audit_of t.holds q) left.report (record { answer = bytes.answer; auths = bytes.auths; from = fits.0; to = fits.1 }) (shown_whole (audit_of t.holds q) left.report whole left.by) left.room order.order in
     let by_root : verified r.root (evidence_by t.holds q left.report) ≡ Ok (map (λ claim. true) (claims_of left.report)) = ap (λ (root : List ℕ). verified root (evidence_by t.holds q left.report)) handed.root ∙ accepts in
     verify_gives handed.found.holds r (evidence_by t.holds q left.report) (map (λ claim. true) (claims_of left.report)) (given_is q r name t new start e left handed) left.room.whole by_root
     ∙ ap (λ (ending : Ending). Ok ending) (all_accepted (claims_of left.report))
@@ -106,11 +107,11 @@ accepts checking r claims found start end begin done answered is told gives run 
 
 pub run_accepts : ((words : List (List ℕ)) (request : Request) → (request_in words ≡ Some request → Asks words request) × (Asks words request → request_in words ≡ Some request)) → Accepted
     → (words checking : List (List ℕ)) (q : AuditRequest) (r : VerifyRequest) (name : List ℕ) (old new start end : disk.Disk) (before after begin done : disk.Tape) (status answered : ℕ) (t : disk.Told)
-    → request_in words ≡ Some (Audit q) → q.evidence ≡ Some name → old.told ≡ Some t → HoldsBytes t.holds q
+    → request_in words ≡ Some (Audit q) → q.evidence ≡ Some name → old.told ≡ Some t → HoldsBytes t.holds q → HoldsWhole t.holds q
     → (run : RunsTo (plan_for words) old new before after status) → Answered (λ s. (s ≡ 0) ⊎ (s ≡ 1)) run.ending status
     → request_in checking ≡ Some (Verify r) → IsHanded q r name new start
     → (verifying : RunsTo (plan_for checking) start end begin done answered)
     → (left : LeavesEvidence q name t new run.ending) × Accepts (claims_of left.report) start end begin done answered verifying.result verifying.ending
-run_accepts asks accepted words checking q r name old new start end before after begin done status answered t is given told bytes run low asked handed verifying =
+run_accepts asks accepted words checking q r name old new start end before after begin done status answered t is given told bytes whole run low asked handed verifying =
     let left = run_leaves words q name old new before after status t is given told run low in
-    (left, accepts checking r (claims_of left.report) handed.found start end begin done answered asked handed.given_tells (handed_gives accepted q r name t new start run.ending bytes (asked_in_order asks words q is) left handed) verifying)
+    (left, accepts checking r (claims_of left.report) handed.found start end begin done answered asked handed.given_tells (handed_gives accepted q r name t new start run.ending bytes whole (asked_in_order asks words q is) left handed) verifying)

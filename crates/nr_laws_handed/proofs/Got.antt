@@ -7,18 +7,18 @@ use Rattle.nr_spec_plans.specs.Plans.{Read, Room, Runs, act, followed_by}
 use Rattle.nr_spec_plans.specs.Laws.{outcome}
 use Rattle.nr_spec_plans.proofs.PlanLaws.{gives_outcome}
 use Rattle.nr_spec_log.specs.Authenticator.{auths_of}
-use Rattle.nr_spec_log.specs.Answer.{answer_of}
+use Rattle.nr_spec_slices.specs.Reading.{slice_of}
+use Rattle.nr_spec_slices.specs.Audits as slices
 use Rattle.nr_spec_outcome.specs.Report.{Report}
-use Rattle.nr_spec_outcome.specs.Outcome.{Fact}
 use Rattle.nr_spec_texts.specs.Promises.{PromiseFile, promise_of}
 use Rattle.nr_spec_commands.specs.Words.{AuditRequest}
 use Rattle.nr_spec_program.specs.Command.{AnswerInput, AuthsInput, Input, PromiseInput, concluded, input_limit, judged, load, promise_plan, sized, well_formed}
 use Rattle.nr_spec_program.specs.Causes.{Reported, reported_plan}
 use Rattle.nr_laws_program.proofs.Outcomes.{apart, formed_gives, load_gives, sized_gives}
 use Rattle.nr_laws_program.proofs.AuditLaws.{evidence_for}
-use Rattle.nr_laws_verify.specs.Audits.{Reports, evidence_of_report}
+use Rattle.nr_laws_verify.specs.Audits.{evidence_of_report}
 use Rattle.nr_laws_verify.proofs.Named.{text_kept}
-use Rattle.nr_laws_handed.specs.Handed.{audit_of}
+use Rattle.nr_laws_handed.specs.Handed.{Shows, audit_of}
 use Rattle.nr_laws_handed.proofs.Parts.{reported_each}
 
 -- ---- files within their limits
@@ -55,15 +55,17 @@ promise_gives held name promise is =
       fits = load_fits held PromiseInput name a.0 a.1;
     }
 
-concluded_gives : (held : Contents) (found : Result Report Fact) (report : Report) → outcome held (concluded found) ≡ Ok report → found ≡ Ok report
+concluded_gives : (held : Contents) (found : Result Report slices.Refusal) (report : Report) → outcome held (concluded found) ≡ Ok report → found ≡ Ok report
 concluded_gives held (Ok r) report is = let e : r ≡ report = cc in ap (λ a. Ok a) e
-concluded_gives held (Err fact) report is = absurd cc
+concluded_gives held (Err (slices.Malformed place)) report is = absurd cc
+concluded_gives held (Err (slices.Refused fact)) report is = absurd cc
+concluded_gives held (Err (slices.Checkpoint late)) report is = absurd cc
 
 -- ---- the whole of it
 
 -- What was got is what the audit of the files' bytes gives, and these have the sizes of their files.
 pub record Got (held : Contents) (q : AuditRequest) (r : Reported) : Type 0 where
-  pub by : Reports (audit_of held q) r.report
+  pub by : Shows (audit_of held q) r.report
   pub promise : by.promise ≡ r.promise
   pub answer : r.answer ≡ bytes_of (held q.answer)
   pub text : r.promise.text ≡ bytes_of (held q.promise)
@@ -75,18 +77,18 @@ unfolding reported_plan
 reported_is held q r is =
     let p = apart held (promise_plan q.promise) _ r is in
     let b = apart held (load AnswerInput q.answer) _ r p.2 in
-    let a = apart held (well_formed AnswerInput (answer_of b.0)) _ r b.2 in
+    let a = apart held (Room (well_formed AnswerInput (slice_of b.0))) _ r b.2 in
     let u = apart held (load AuthsInput q.auths) _ r a.2 in
     let s = apart held (well_formed AuthsInput (auths_of u.0)) _ r u.2 in
     let j = apart held (Room (judged q.root p.0 a.0 q.period s.0)) _ r s.2 in
     let made : record { promise = p.0; answer = b.0; report = j.0 } ≡ r = (let got = j.2 in cc) in
     let says = promise_gives held q.promise p.0 p.1 in
     let whole = load_gives held AnswerInput q.answer b.0 b.1 in
-    let by : Reports (audit_of held q) j.0 = record {
+    let by : Shows (audit_of held q) j.0 = record {
       answer = a.0;
       promise = p.0;
       auths = s.0;
-      answer_reads = ap answer_of (sym whole) ∙ formed_gives held AnswerInput (answer_of b.0) a.0 a.1;
+      answer_reads = ap slice_of (sym whole) ∙ formed_gives held AnswerInput (slice_of b.0) a.0 a.1;
       promise_reads = says.reads;
       auths_read = ap auths_of (sym (load_gives held AuthsInput q.auths u.0 u.1)) ∙ formed_gives held AuthsInput (auths_of u.0) s.0 s.1;
       outcome_is = concluded_gives held _ j.0 j.1;

@@ -20,8 +20,8 @@ use Rattle.nr_laws_program.proofs.PlanKinds.{evidence_each}
 use Rattle.nr_laws_program.proofs.FileLaws.{runs_for, told_still}
 use Rattle.nr_laws_program.proofs.ReplyLaws.{one_held}
 use Rattle.nr_laws_program.proofs.AuditLaws.{evidence_for, gave_report, is_report, kept}
-use Rattle.nr_laws_verify.specs.Audits.{Reports, evidence_of_report}
-use Rattle.nr_laws_handed.specs.Handed.{LeavesEvidence, audit_of, evidence_by}
+use Rattle.nr_laws_verify.specs.Audits.{evidence_of_report}
+use Rattle.nr_laws_handed.specs.Handed.{Shows, LeavesEvidence, audit_of, evidence_by}
 use Rattle.nr_laws_handed.proofs.Parts.{Halves, gave_refusal, gave_well, halves_in, kept_keeps}
 use Rattle.nr_laws_handed.proofs.Got.{evidence_is, reported_gives}
 
@@ -70,7 +70,7 @@ kept_spares q name r other is ne =
 MayLeave : (q : AuditRequest) (name : List ℕ) (old new : Disk) (t : Told) → Type 0
 MayLeave q name old new t =
     Unchanged old.told new.told
-    ⊎ ((report : Report) × Reports (audit_of t.holds q) report × ((u : Told) × (new.told ≡ Some u) × LeftByWriting name (evidence_by t.holds q report) t u))
+    ⊎ ((report : Report) × Shows (audit_of t.holds q) report × ((u : Told) × (new.told ≡ Some u) × LeftByWriting name (evidence_by t.holds q report) t u))
 
 halves_leave : (q : AuditRequest) (name : List ℕ) (old new : Disk) (t : Told) (result : Result Ending (Halt Refusal)) → q.evidence ≡ Some name → old.told ≡ Some t → Halves q old new result → MayLeave q name old new t
 unfolding MayLeave
@@ -103,7 +103,7 @@ may_leave q name old new t result is told runs =
 pub run_may_leave : (words : List (List ℕ)) (q : AuditRequest) (name : List ℕ) (old new : Disk) (before after : Tape) (status : ℕ) (t : Told) → request_in words ≡ Some (Audit q) → q.evidence ≡ Some name → old.told ≡ Some t
     → RunsTo (plan_for words) old new before after status
     → Unchanged old.told new.told
-    ⊎ ((report : Report) × Reports (audit_of t.holds q) report × ((u : Told) × (new.told ≡ Some u) × LeftByWriting name (evidence_by t.holds q report) t u))
+    ⊎ ((report : Report) × Shows (audit_of t.holds q) report × ((u : Told) × (new.told ≡ Some u) × LeftByWriting name (evidence_by t.holds q report) t u))
 unfolding MayLeave
 run_may_leave words q name old new before after status t is given told run = may_leave q name old new t run.result given told (runs_for words (Audit q) old new run.result is run.runs)
 

@@ -4,3 +4,4 @@ pub mod Got
 pub mod Left
 pub mod Values
 pub mod Accepting
+pub mod Whole

@@ -7,11 +7,11 @@ use Rattle.nr_spec_plans.specs.Steps.{OnlyBy}
 use Rattle.nr_spec_plans.proofs.PlanLaws.{each_followed, taken_apart}
 use Rattle.nr_spec_plans.proofs.StepLaws.{done_only}
 use Rattle.nr_spec_log.specs.Authenticator.{auths_of}
-use Rattle.nr_spec_log.specs.Answer.{answer_of}
+use Rattle.nr_spec_slices.specs.Reading.{slice_of}
 use Rattle.nr_spec_evidence.specs.Evidence.{EvidenceFile}
 use Rattle.nr_spec_saving.specs.Saving.{TooLong, save_evidence}
 use Rattle.nr_spec_commands.specs.Words.{AuditRequest, Audit}
-use Rattle.nr_spec_program.specs.Command.{Ending, Refusal, Work, audit_ending, evidence_plan, judged, long_evidence}
+use Rattle.nr_spec_program.specs.Command.{AnswerInput, well_formed, Ending, Refusal, Work, audit_ending, evidence_plan, judged, long_evidence}
 use Rattle.nr_spec_program.specs.Table.{plan_of}
 use Rattle.nr_spec_program.specs.Causes.{Reported, reported_plan}
 use Rattle.nr_laws_program.proofs.Parts.{refused_apart}
@@ -28,7 +28,7 @@ unfolding reported_plan
 reported_each q =
     each_followed IsRead _ _ (promise_each IsRead q.promise (reads q.promise)) (λ promise.
     each_followed IsRead _ _ (load_each IsRead _ q.answer (reads q.answer)) (λ answer_bytes.
-    each_followed IsRead _ _ (well_formed_each IsRead _ (answer_of answer_bytes)) (λ answer.
+    each_followed IsRead (Room (well_formed AnswerInput (slice_of answer_bytes))) _ (well_formed_each IsRead _ (slice_of answer_bytes)) (λ answer.
     each_followed IsRead _ _ (load_each IsRead _ q.auths (reads q.auths)) (λ auths_bytes.
     each_followed IsRead _ _ (well_formed_each IsRead _ (auths_of auths_bytes)) (λ auths.
     each_followed IsRead (Room (judged q.root promise answer q.period auths)) _ (concluded_each IsRead _) (λ report. tt))))))

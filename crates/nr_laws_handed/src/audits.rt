@@ -11,8 +11,7 @@ ghost use Rattle.nr_spec_program.specs.Running.{RunsTo};
 ghost use Rattle.nr_spec_program.specs.Table.{plan_for};
 ghost use Rattle.nr_spec_program.specs.Causes.{Answered, LeavesFiles};
 ghost use Rattle.nr_laws_program.specs.Replies.{LeftByWriting};
-ghost use Rattle.nr_laws_verify.specs.Audits.{Reports};
-ghost use Rattle.nr_laws_handed.specs.Handed.{LeavesEvidence, audit_of, evidence_by};
+ghost use Rattle.nr_laws_handed.specs.Handed.{LeavesEvidence, Shows, audit_of, evidence_by};
 
 use nr_laws_words::words_are_requests;
 
@@ -42,7 +41,7 @@ pub fn audit_may_leave()
     ensures left { (words : List (List ℕ)) (q : AuditRequest) (name : List ℕ) (old new : Disk) (before after : Tape)
         (status : ℕ) (t : Told) → request_in words ≡ Some (Audit q) → q.evidence ≡ Some name → old.told ≡ Some t
         → RunsTo (plan_for words) old new before after status
-        → Unchanged old.told new.told ⊎ ((report : Report) × Reports (audit_of t.holds q) report
+        → Unchanged old.told new.told ⊎ ((report : Report) × Shows (audit_of t.holds q) report
         × ((u : Told) × (new.told ≡ Some u) × LeftByWriting name (evidence_by t.holds q report) t u)) }
     ensures unwritten { (words : List (List ℕ)) (q : AuditRequest) (refusal : Refusal) (old new : Disk)
         (before after : Tape) (status : ℕ) → request_in words ≡ Some (Audit q)

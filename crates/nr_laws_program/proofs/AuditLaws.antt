@@ -4,7 +4,7 @@ use Rattle.nr_spec_plans.specs.Disk as disk
 use Rattle.nr_spec_plans.specs.Plans.{Done, Room, Halt, Refused, Faulted, Runs, followed_by, halting, want, ◌>>=◌}
 use Rattle.nr_spec_plans.proofs.PlanLaws.{taken_apart}
 use Rattle.nr_spec_log.specs.Authenticator.{auths_of}
-use Rattle.nr_spec_log.specs.Answer.{answer_of}
+use Rattle.nr_spec_slices.specs.Reading.{slice_of}
 use Rattle.nr_spec_evidence.specs.Evidence.{EvidenceFile}
 use Rattle.nr_spec_saving.specs.Saving.{PartsSaved, TooLong, evidence_parts, save_evidence}
 use Rattle.nr_laws_saving.proofs.EvidenceLaws.{evidence_fits}
@@ -37,7 +37,7 @@ unfolding plan_of audit_plan reported_plan followed_by
 audit_parts q =
     together_so (promise_plan q.promise) _ (rest q) _ (λ promise.
     together_so (load AnswerInput q.answer) _ (rest q) _ (λ answer_bytes.
-    together_so (well_formed AnswerInput (answer_of answer_bytes)) _ (rest q) _ (λ answer.
+    together_so (Room (well_formed AnswerInput (slice_of answer_bytes))) _ (rest q) _ (λ answer.
     together_so (load AuthsInput q.auths) _ (rest q) _ (λ auths_bytes.
     together_so (well_formed AuthsInput (auths_of auths_bytes)) _ (rest q) _ (λ auths.
     together_so (Room (judged q.root promise answer q.period auths)) _ (rest q) _ (λ report. refl))))))

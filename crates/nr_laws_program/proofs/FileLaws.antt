@@ -3,7 +3,7 @@ use Rattle.std.proofs.Common.{◌≡◌, ◌≢◌, ℕ, ◌≤◌, length, List
 use Rattle.std.specs.Prelude.{nat_lt, option_map}
 use Rattle.std.proofs.lemmas.Bool.{cases_Bool}
 use Rattle.nr_spec_log.specs.Authenticator.{auths_of}
-use Rattle.nr_spec_log.specs.Answer.{answer_of}
+use Rattle.nr_spec_slices.specs.Reading.{slice_of}
 use Rattle.nr_spec_evidence.specs.Evidence.{EvidenceFile, evidence_file, most_evidence}
 use Rattle.nr_spec_saving.specs.Saving.{TooLong, evidence_parts, save_evidence, save_parts}
 use Rattle.nr_spec_plans.specs.Disk as disk
@@ -15,7 +15,7 @@ use Rattle.nr_spec_plans.proofs.PlanLaws.{writes_nothing, counts_one, ends_so, t
 use Rattle.nr_spec_plans.proofs.SaveLaws.{save_leaves, reads_alone}
 use Rattle.nr_spec_history.specs.KeyFiles.{Key, key_file}
 use Rattle.nr_spec_commands.specs.Words.{named, AuditRequest, CollectRequest, KeygenRequest, Request, Answer, Audit, Check, Collect, Keygen, Record, Verify, request_in}
-use Rattle.nr_spec_program.specs.Command.{judged, audit_plan, evidence_plan, long_evidence, Work, Ending, Refusal, refusal_ending, fault_ending, key_plan, keygen_plan, key_ending}
+use Rattle.nr_spec_program.specs.Command.{AnswerInput, well_formed, judged, audit_plan, evidence_plan, long_evidence, Work, Ending, Refusal, refusal_ending, fault_ending, key_plan, keygen_plan, key_ending}
 use Rattle.nr_spec_program.specs.Collecting.{collect_plan, frames_plan}
 use Rattle.nr_spec_program.specs.Table.{plan_of, plan_in, plan_for}
 use Rattle.nr_spec_program.specs.Running.{RunsTo, Concludes, Answers}
@@ -146,7 +146,7 @@ unfolding plan_of audit_plan
 audit_phased kind late q promise answer auths =
     phased_after kind late _ _ (promise_each kind q.promise promise) (λ promise.
     phased_after kind late _ _ (load_each kind _ q.answer answer) (λ answer_bytes.
-    phased_after kind late _ _ (well_formed_each kind _ (answer_of answer_bytes)) (λ answer.
+    phased_after kind late (Room (well_formed AnswerInput (slice_of answer_bytes))) _ (well_formed_each kind _ (slice_of answer_bytes)) (λ answer.
     phased_after kind late _ _ (load_each kind _ q.auths auths) (λ auths_bytes.
     phased_after kind late _ _ (well_formed_each kind _ (auths_of auths_bytes)) (λ auths.
     phased_after kind late (Room (judged q.root promise answer q.period auths)) _ (concluded_each kind _) (λ report.

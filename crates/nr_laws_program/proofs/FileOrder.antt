@@ -1,21 +1,29 @@
 -- What was done before a refusal.
-use Rattle.std.proofs.Common.{ℕ, length, List, Option, Some, None, Result, Ok, Err, refl, inl, inr}
+use Rattle.std.proofs.Common.{◌≡◌, ℕ, length, List, [], ◌∷◌, Option, Some, None, Result, Ok, Err, refl, sym, subst, inl, inr}
 use Rattle.std.specs.Prelude.{Bool, nat_le, nat_lt}
 use Rattle.std.proofs.lemmas.Bool.{cases_Bool}
 use Rattle.nr_spec_plans.specs.Plans.{Done, Room, followed_by, ◌>>=◌, want, save, Action, Ask, Read}
 use Rattle.nr_spec_plans.specs.Order.{Refuses, Allows}
 use Rattle.nr_spec_plans.proofs.OrderLaws.{refuses_followed, allows_followed}
-use Rattle.nr_spec_log.specs.Authenticator.{auths_of}
-use Rattle.nr_spec_log.specs.Answer.{AnswerFile, answer_of}
+use Rattle.nr_spec_log.specs.Authenticator.{Authenticator, auths_of}
+use Rattle.nr_spec_log.specs.Answer.{AnswerFile}
 use Rattle.nr_spec_history.specs.KeyFiles.{seed_of}
 use Rattle.nr_spec_evidence.specs.Evidence.{EvidenceFile, evidence_file, most_evidence}
 use Rattle.nr_spec_saving.specs.Saving.{TooLong, evidence_parts, save_evidence, save_parts}
 use Rattle.nr_spec_verify.specs.Verified as evidence
 use Rattle.nr_spec_verify.specs.Verified.{verified}
 use Rattle.nr_spec_outcome.specs.Report.{Report}
-use Rattle.nr_spec_outcome.specs.Outcome.{Fact}
+use Rattle.nr_spec_outcome.specs.Outcome.{Fact, Form, Head, Network, Promise, Short, Unsigned, outcome_over}
+use Rattle.nr_spec_report.specs.Wrong.{Base}
+use Rattle.nr_spec_truth.specs.Truths.{meant}
+use Rattle.nr_spec_history.specs.Conflicts.{Period}
+use Rattle.nr_spec_slices.specs.Late.{Late, late_fact}
+use Rattle.nr_spec_slices.specs.Reading.{slice_of}
+use Rattle.nr_spec_slices.specs.Audits as slices
+use Rattle.nr_spec_slices.specs.Audits.{base_by, outcome_by, outcome_of, with_late}
+use Rattle.nr_spec_slices.proofs.Sliced.{Sliced, sliced}
 use Rattle.nr_spec_commands.specs.Words.{AuditRequest, CheckRequest, CollectRequest, KeygenRequest, VerifyRequest, Audit, Check, Collect, Keygen, Verify}
-use Rattle.nr_spec_texts.specs.Promises.{PromiseFile, promise_of}
+use Rattle.nr_spec_texts.specs.Promises.{PromiseFile, audited_by, promise_of}
 use Rattle.nr_spec_program.specs.Command.{Input, PromiseInput, AnswerInput, AuthsInput, SeedInput, EvidenceInput, FramesInput, Work, Ending, Refusal, NoFile, Limit, Malformed, load, sized, well_formed, LongEvidence, evidence_plan, long_evidence, concluded, judged, promise_plan, check_plan, audit_plan, key_plan, keygen_plan, input_limit}
 use Rattle.nr_spec_program.specs.Verifying.{checked, verified_ending, verify_plan}
 use Rattle.nr_spec_frames.specs.Frames.{frames_of}
@@ -40,9 +48,30 @@ pub formed_refuses : {A : Type 0} (P : Refusal → Type 0) (input : Input) (foun
 formed_refuses P input (Ok value) malformed = tt
 formed_refuses P input (Err place) malformed = malformed place
 
-concluded_refuses : (P : Refusal → Type 0) (found : Result Report Fact) → ((fact : Fact) → P (command.Refused fact)) → Refuses P (concluded found)
-concluded_refuses P (Ok report) fact_has = tt
-concluded_refuses P (Err fact) fact_has = fact_has fact
+-- what goes on after a file that is in its grammar
+formed_then_refuses : {A B : Type 0} (P : Refusal → Type 0) (input : Input) (found : Result A ℕ) (f : A → Work B) → ((place : ℕ) → P (Malformed input place)) → ((value : A) → found ≡ Ok value → Refuses P (f value)) → Refuses P (Room (well_formed input found) >>= f)
+unfolding followed_by
+formed_then_refuses P input (Ok value) f malformed next = next value refl
+formed_then_refuses P input (Err place) f malformed next = malformed place
+
+late_refuses : (P : Refusal → Type 0) (late : Option Late) (given : Result Report Fact) → ((fact : Fact) → P (command.Refused fact)) → ((late : Late) → P (command.LateStart late)) → Refuses P (concluded (with_late late given))
+late_refuses P None (Ok report) fact_has late_has = tt
+late_refuses P None (Err fact) fact_has late_has = fact_has fact
+late_refuses P (Some late) (Ok report) fact_has late_has = late_has late
+late_refuses P (Some late) (Err Form) fact_has late_has = fact_has Form
+late_refuses P (Some late) (Err (Network found wanted)) fact_has late_has = fact_has (Network found wanted)
+late_refuses P (Some late) (Err Unsigned) fact_has late_has = fact_has Unsigned
+late_refuses P (Some late) (Err (Head head chain)) fact_has late_has = fact_has (Head head chain)
+late_refuses P (Some late) (Err (Short head to)) fact_has late_has = fact_has (Short head to)
+late_refuses P (Some late) (Err (Promise found file)) fact_has late_has = late_has late
+
+-- an answer before which something stands isn't malformed any more
+judged_refuses : (P : Refusal → Type 0) (root : List ℕ) (promise : PromiseFile) (answer : AnswerFile) (period : Period) (auths : List Authenticator) (base : Base) → base_by answer.body answer.entries ≡ Ok base
+    → ((fact : Fact) → P (command.Refused fact)) → ((late : Late) → P (command.LateStart late)) → Refuses P (judged root promise answer period auths)
+unfolding outcome_of
+judged_refuses P root promise answer period auths base is fact_has late_has =
+    subst (λ (b : Result Base slices.Refusal). Refuses P (concluded (outcome_by root (audited_by promise ∷ []) (meant (promise.says ∷ [])) answer period auths b))) (sym is)
+    (late_refuses P (late_fact answer period) (outcome_over root (audited_by promise ∷ []) (meant (promise.says ∷ [])) base answer period auths) fact_has late_has)
 
 saved_refuses : (P : TooLong → Type 0) (name : List ℕ) (e : EvidenceFile) → ((found : ℕ) → P (record { found = found })) → Refuses P (save_evidence name e)
 unfolding save_evidence
@@ -80,9 +109,17 @@ pub formed_allows : {A : Type 0} (allowed : Refusal → Action → Type 0) (inpu
 formed_allows allowed input (Ok value) = tt
 formed_allows allowed input (Err place) = tt
 
-concluded_allows : (allowed : Refusal → Action → Type 0) (found : Result Report Fact) → Allows allowed (concluded found)
+-- what goes on after a file that is in its grammar
+formed_then_allows : {A B : Type 0} (allowed : Refusal → Action → Type 0) (input : Input) (found : Result A ℕ) (f : A → Work B) → ((value : A) → found ≡ Ok value → Allows allowed (f value)) → Allows allowed (Room (well_formed input found) >>= f)
+unfolding followed_by
+formed_then_allows allowed input (Ok value) f next = next value refl
+formed_then_allows allowed input (Err place) f next = tt
+
+concluded_allows : (allowed : Refusal → Action → Type 0) (found : Result Report slices.Refusal) → Allows allowed (concluded found)
 concluded_allows allowed (Ok report) = tt
-concluded_allows allowed (Err fact) = tt
+concluded_allows allowed (Err (slices.Malformed place)) = tt
+concluded_allows allowed (Err (slices.Refused fact)) = tt
+concluded_allows allowed (Err (slices.Checkpoint late)) = tt
 
 -- nothing refuses after the evidence is cut
 saved_allows : (allowed : TooLong → Action → Type 0) (name : List ℕ) (e : EvidenceFile) → Allows allowed (save_evidence name e)
@@ -121,6 +158,7 @@ promise_allows allowed name none limit asked read =
 record OfAuths (P : Refusal → Type 0) : Type 0 where
   pub malformed : (place : ℕ) → P (Malformed AuthsInput place)
   pub fact : (fact : Fact) → P (command.Refused fact)
+  pub late : (late : Late) → P (command.LateStart late)
   pub long : (found : ℕ) → P (LongEvidence found)
 
 record OfContent (P : Refusal → Type 0) : Type 0 where
@@ -138,27 +176,27 @@ promise_asked : (q : AuditRequest) → OfAnswer (λ r. Permits (Audit q) r (Ask 
 promise_asked q = record {
   none = inl refl;
   limit = λ found. inl refl;
-  later = record { malformed = λ place. inl refl; none = inl refl; limit = λ found. inl refl; later = record { malformed = λ place. inl refl; fact = λ fact. inl refl; long = λ found. inl refl } };
+  later = record { malformed = λ place. inl refl; none = inl refl; limit = λ found. inl refl; later = record { malformed = λ place. inl refl; fact = λ fact. inl refl; late = λ late. inl refl; long = λ found. inl refl } };
 }
 
 promise_read : (q : AuditRequest) (size : ℕ) → OfAnswer (λ r. Permits (Audit q) r (Read q.promise size))
 promise_read q size = record {
   none = inl refl;
   limit = λ found. inl refl;
-  later = record { malformed = λ place. inl refl; none = inl refl; limit = λ found. inl refl; later = record { malformed = λ place. inl refl; fact = λ fact. inl refl; long = λ found. inl refl } };
+  later = record { malformed = λ place. inl refl; none = inl refl; limit = λ found. inl refl; later = record { malformed = λ place. inl refl; fact = λ fact. inl refl; late = λ late. inl refl; long = λ found. inl refl } };
 }
 
 answer_asked : (q : AuditRequest) → OfContent (λ r. Permits (Audit q) r (Ask q.answer))
-answer_asked q = record { malformed = λ place. inr (inl refl); none = inr (inl refl); limit = λ found. inr (inl refl); later = record { malformed = λ place. inr (inl refl); fact = λ fact. inr (inl refl); long = λ found. inr (inl refl) } }
+answer_asked q = record { malformed = λ place. inr (inl refl); none = inr (inl refl); limit = λ found. inr (inl refl); later = record { malformed = λ place. inr (inl refl); fact = λ fact. inr (inl refl); late = λ late. inr (inl refl); long = λ found. inr (inl refl) } }
 
 answer_read : (q : AuditRequest) (size : ℕ) → OfContent (λ r. Permits (Audit q) r (Read q.answer size))
-answer_read q size = record { malformed = λ place. inr (inl refl); none = inr (inl refl); limit = λ found. inr (inl refl); later = record { malformed = λ place. inr (inl refl); fact = λ fact. inr (inl refl); long = λ found. inr (inl refl) } }
+answer_read q size = record { malformed = λ place. inr (inl refl); none = inr (inl refl); limit = λ found. inr (inl refl); later = record { malformed = λ place. inr (inl refl); fact = λ fact. inr (inl refl); late = λ late. inr (inl refl); long = λ found. inr (inl refl) } }
 
 auths_asked : (q : AuditRequest) → OfAuths (λ r. Permits (Audit q) r (Ask q.auths))
-auths_asked q = record { malformed = λ place. inr (inr (inl refl)); fact = λ fact. inr (inr (inl refl)); long = λ found. inr (inr (inl refl)) }
+auths_asked q = record { malformed = λ place. inr (inr (inl refl)); fact = λ fact. inr (inr (inl refl)); late = λ late. inr (inr (inl refl)); long = λ found. inr (inr (inl refl)) }
 
 auths_read : (q : AuditRequest) (size : ℕ) → OfAuths (λ r. Permits (Audit q) r (Read q.auths size))
-auths_read q size = record { malformed = λ place. inr (inr (inl refl)); fact = λ fact. inr (inr (inl refl)); long = λ found. inr (inr (inl refl)) }
+auths_read q size = record { malformed = λ place. inr (inr (inl refl)); fact = λ fact. inr (inr (inl refl)); late = λ late. inr (inr (inl refl)); long = λ found. inr (inr (inl refl)) }
 
 pub audit_allows : (q : AuditRequest) → Allows (Permits (Audit q)) (plan_of (Audit q))
 unfolding plan_of audit_plan
@@ -167,30 +205,31 @@ audit_allows q =
     (promise_each _ q.promise (record { ask = λ promise. on_answer promise _ (promise_asked q); read = λ size promise. on_answer promise _ (promise_read q size) }))
     (λ promise. allows_followed (Permits (Audit q)) _ _ (load_allows (Permits (Audit q)) AnswerInput q.answer (inr (inl refl)) (λ found. inr (inl refl)))
     (load_each _ AnswerInput q.answer (record { ask = λ bytes. on_content promise bytes _ (answer_asked q); read = λ size bytes. on_content promise bytes _ (answer_read q size) }))
-    (λ answer_bytes. allows_followed (Permits (Audit q)) _ _ (formed_allows (Permits (Audit q)) AnswerInput (answer_of answer_bytes)) (well_formed_each _ AnswerInput (answer_of answer_bytes))
-    (λ answer. allows_followed (Permits (Audit q)) _ _ (load_allows (Permits (Audit q)) AuthsInput q.auths (inr (inr (inl refl))) (λ found. inr (inr (inl refl))))
-    (load_each _ AuthsInput q.auths (record { ask = λ bytes. on_auths promise answer_bytes answer bytes _ (auths_asked q); read = λ size bytes. on_auths promise answer_bytes answer bytes _ (auths_read q size) }))
+    (λ answer_bytes. formed_then_allows (Permits (Audit q)) AnswerInput (slice_of answer_bytes) _
+    (λ answer is. allows_followed (Permits (Audit q)) _ _ (load_allows (Permits (Audit q)) AuthsInput q.auths (inr (inr (inl refl))) (λ found. inr (inr (inl refl))))
+    (load_each _ AuthsInput q.auths (record { ask = λ bytes. on_auths promise answer_bytes answer is bytes _ (auths_asked q); read = λ size bytes. on_auths promise answer_bytes answer is bytes _ (auths_read q size) }))
     (λ auths_bytes. allows_followed (Permits (Audit q)) _ _ (formed_allows (Permits (Audit q)) AuthsInput (auths_of auths_bytes)) (well_formed_each _ AuthsInput (auths_of auths_bytes)) (λ auths.
     allows_followed (Permits (Audit q)) (Room (judged q.root promise answer q.period auths)) _ (concluded_allows (Permits (Audit q)) _) (concluded_each _ _)
     (λ report. allows_followed (Permits (Audit q)) want _ tt tt
     (λ room. allows_followed (Permits (Audit q)) (evidence_plan q.evidence _) _ (evidence_allows (Permits (Audit q)) q.evidence _) (evidence_each _ q.evidence _ (λ n is. record { cut = λ saved. tt; write = λ at bytes saved. tt; sync = λ saved. tt })) (λ saved. tt))))))))
   where
-    on_auths : (promise : PromiseFile) (answer_bytes : List ℕ) (answer : AnswerFile) (bytes : List ℕ) (P : Refusal → Type 0) → OfAuths P
+    on_auths : (promise : PromiseFile) (answer_bytes : List ℕ) (answer : AnswerFile) → slice_of answer_bytes ≡ Ok answer → (bytes : List ℕ) (P : Refusal → Type 0) → OfAuths P
         → Refuses P (well_formed AuthsInput (auths_of bytes) >>= λ auths. Room (judged q.root promise answer q.period auths) >>= after_report q answer_bytes promise)
-    on_auths promise answer_bytes answer bytes P of =
+    on_auths promise answer_bytes answer is bytes P of =
+        let s = sliced answer_bytes answer is in
         refuses_followed P _ _ (formed_refuses P AuthsInput (auths_of bytes) of.malformed)
-        (λ auths. refuses_followed P (Room (judged q.root promise answer q.period auths)) _ (concluded_refuses P _ of.fact)
+        (λ auths. refuses_followed P (Room (judged q.root promise answer q.period auths)) _ (judged_refuses P q.root promise answer q.period auths s.base s.based of.fact of.late)
         (λ report. refuses_followed P want _ tt
         (λ room. refuses_followed P (evidence_plan q.evidence _) _ (evidence_refuses P q.evidence _ of.long) (λ saved. tt))))
 
     on_content : (promise : PromiseFile) (bytes : List ℕ) (P : Refusal → Type 0) → OfContent P
-        → Refuses P (well_formed AnswerInput (answer_of bytes) >>= λ answer. load AuthsInput q.auths >>= λ auths_bytes. well_formed AuthsInput (auths_of auths_bytes) >>= λ auths. Room (judged q.root promise answer q.period auths) >>= after_report q bytes promise)
+        → Refuses P (Room (well_formed AnswerInput (slice_of bytes)) >>= λ answer. load AuthsInput q.auths >>= λ auths_bytes. well_formed AuthsInput (auths_of auths_bytes) >>= λ auths. Room (judged q.root promise answer q.period auths) >>= after_report q bytes promise)
     on_content promise bytes P of =
-        refuses_followed P _ _ (formed_refuses P AnswerInput (answer_of bytes) of.malformed)
-        (λ answer. refuses_followed P _ _ (load_refuses P AuthsInput q.auths of.none of.limit) (λ auths_bytes. on_auths promise bytes answer auths_bytes P of.later))
+        formed_then_refuses P AnswerInput (slice_of bytes) _ of.malformed
+        (λ answer is. refuses_followed P _ _ (load_refuses P AuthsInput q.auths of.none of.limit) (λ auths_bytes. on_auths promise bytes answer is auths_bytes P of.later))
 
     on_answer : (promise : PromiseFile) (P : Refusal → Type 0) → OfAnswer P
-        → Refuses P (load AnswerInput q.answer >>= λ bytes. well_formed AnswerInput (answer_of bytes) >>= λ answer. load AuthsInput q.auths >>= λ auths_bytes. well_formed AuthsInput (auths_of auths_bytes) >>= λ auths. Room (judged q.root promise answer q.period auths) >>= after_report q bytes promise)
+        → Refuses P (load AnswerInput q.answer >>= λ bytes. Room (well_formed AnswerInput (slice_of bytes)) >>= λ answer. load AuthsInput q.auths >>= λ auths_bytes. well_formed AuthsInput (auths_of auths_bytes) >>= λ auths. Room (judged q.root promise answer q.period auths) >>= after_report q bytes promise)
     on_answer promise P of = refuses_followed P _ _ (load_refuses P AnswerInput q.answer of.none of.limit) (λ bytes. on_content promise bytes P of.later)
 
 -- ---- the other requests

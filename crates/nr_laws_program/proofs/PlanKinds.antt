@@ -12,18 +12,21 @@ use Rattle.nr_laws_saving.proofs.PartLaws.{save_each}
 use Rattle.nr_spec_verify.specs.Verified as evidence
 use Rattle.nr_spec_verify.specs.Verified.{verified}
 use Rattle.nr_spec_log.specs.Authenticator.{Authenticator, auths_of}
-use Rattle.nr_spec_log.specs.Answer.{AnswerFile, answer_of}
+use Rattle.nr_spec_log.specs.Answer.{AnswerFile}
+use Rattle.nr_spec_slices.specs.Reading.{slice_of}
+use Rattle.nr_spec_slices.specs.Audits as slices
+use Rattle.nr_spec_slices.specs.Audits.{outcome_of}
 use Rattle.nr_spec_history.specs.KeyFiles.{seed_of}
 use Rattle.nr_spec_report.specs.Claims.{Claim}
 use Rattle.nr_spec_evidence.specs.Evidence.{EvidenceFile, evidence_file, most_evidence}
 use Rattle.nr_spec_outcome.specs.Report.{Report, claims_of}
 use Rattle.nr_spec_promises.specs.Files.{PromiseFile}
-use Rattle.nr_spec_outcome.specs.Outcome.{Fact, outcome, promise_files}
+use Rattle.nr_spec_outcome.specs.Outcome.{Fact, promise_files}
 use Rattle.nr_spec_truth.specs.Truths.{meant}
 use Rattle.nr_spec_texts.specs.Promises as program
 use Rattle.nr_spec_texts.specs.Promises.{promise_of, audited_by}
 use Rattle.nr_spec_commands.specs.Words.{AuditRequest, CheckRequest, CollectRequest, KeygenRequest, VerifyRequest, Request, Answer, Audit, Check, Collect, Keygen, Record, Verify}
-use Rattle.nr_spec_program.specs.Command.{Input, Work, Ending, Refusal, NoFile, Limit, Malformed, Prevented, refusal_ending, load, sized, well_formed, LongEvidence, audit_ending, evidence_of_report, evidence_plan, long_evidence, concluded, judged, promise_plan, check_plan, audit_plan, key_plan, keygen_plan, input_limit, promise_ending, report_ending, report_status, key_ending}
+use Rattle.nr_spec_program.specs.Command.{Input, Work, Ending, Refusal, NoFile, Limit, Malformed, LateStart, Prevented, refusal_ending, load, sized, well_formed, LongEvidence, AnswerInput, audit_ending, evidence_of_report, evidence_plan, long_evidence, concluded, judged, promise_plan, check_plan, audit_plan, key_plan, keygen_plan, input_limit, promise_ending, report_ending, report_status, key_ending}
 use Rattle.nr_spec_program.specs.Recording.{answer_plan, answered_ending, record_plan, recorded_ending}
 use Rattle.nr_spec_program.specs.Verifying.{checked, verified_ending, verify_plan}
 use Rattle.nr_spec_frames.specs.Frames.{frames_of}
@@ -53,9 +56,11 @@ pub well_formed_each : {A : Type 0} (kind : Action → Type 0) (input : Input) (
 well_formed_each kind input (Ok value) = tt
 well_formed_each kind input (Err place) = tt
 
-pub concluded_each : (kind : Action → Type 0) (found : Result Report Fact) → Each kind (concluded found)
+pub concluded_each : (kind : Action → Type 0) (found : Result Report slices.Refusal) → Each kind (concluded found)
 concluded_each kind (Ok report) = tt
-concluded_each kind (Err fact) = tt
+concluded_each kind (Err (slices.Malformed place)) = tt
+concluded_each kind (Err (slices.Refused fact)) = tt
+concluded_each kind (Err (slices.Checkpoint late)) = tt
 
 -- The steps that write a file in pieces are of this kind.
 pub record KindWrites (kind : Action → Type 0) (name : List ℕ) : Type 0 where
@@ -103,7 +108,7 @@ unfolding plan_of audit_plan
 audit_each kind q promise answer auths evidence =
     each_followed kind _ _ (promise_each kind q.promise promise) (λ promise.
     each_followed kind _ _ (load_each kind _ q.answer answer) (λ answer_bytes.
-    each_followed kind _ _ (well_formed_each kind _ (answer_of answer_bytes)) (λ answer.
+    each_followed kind (Room (well_formed AnswerInput (slice_of answer_bytes))) _ (well_formed_each kind _ (slice_of answer_bytes)) (λ answer.
     each_followed kind _ _ (load_each kind _ q.auths auths) (λ auths_bytes.
     each_followed kind _ _ (well_formed_each kind _ (auths_of auths_bytes)) (λ auths.
     each_followed kind (Room (judged q.root promise answer q.period auths)) _ (concluded_each kind _) (λ report.
@@ -139,14 +144,16 @@ collect_each kind q is cut write sync = each_followed kind (frames_plan q) _ (fr
 abbrev pub after_report : AuditRequest → (answer : List ℕ) → program.PromiseFile → Report → Work Ending
 after_report q answer promise report = want >>= λ room. evidence_plan q.evidence (evidence_of_report answer promise q.period report) >>= λ saved. Done (audit_ending promise report)
 
-audit_ends : (q : AuditRequest) (bytes : List ℕ) (promise : program.PromiseFile) (answer : AnswerFile) (auths : List Authenticator) (found : Result Report Fact)
-    → found ≡ outcome q.root (audited_by promise ∷ []) (meant (promise.says ∷ [])) answer q.period auths
+audit_ends : (q : AuditRequest) (bytes : List ℕ) (promise : program.PromiseFile) (answer : AnswerFile) (auths : List Authenticator) (found : Result Report slices.Refusal)
+    → found ≡ outcome_of q.root (audited_by promise ∷ []) (meant (promise.says ∷ [])) answer q.period auths
     → Ends (EndOf (Audit q)) (Room (concluded found) >>= after_report q bytes promise)
 unfolding followed_by
 audit_ends q bytes promise answer auths (Ok report) is =
     let so : EndOf (Audit q) (audit_ending promise report) = (promise, answer, auths, report, ap concluded (sym is), refl) in
     ends_followed (EndOf (Audit q)) (evidence_plan q.evidence (evidence_of_report bytes promise q.period report)) (λ saved. Done (audit_ending promise report)) (λ saved. so)
-audit_ends q bytes promise answer auths (Err fact) is = tt
+audit_ends q bytes promise answer auths (Err (slices.Malformed place)) is = tt
+audit_ends q bytes promise answer auths (Err (slices.Refused fact)) is = tt
+audit_ends q bytes promise answer auths (Err (slices.Checkpoint late)) is = tt
 
 verify_ends : (q : VerifyRequest) (bytes : List ℕ) (found : Result (List Bool) evidence.Refusal) → found ≡ verified q.root bytes
     → Ends (EndOf (Verify q)) (Room (checked found) >>= λ claims. want >>= λ room. Done (verified_ending claims))
@@ -201,6 +208,7 @@ refusal_status (NoFile input) = inr refl
 refusal_status (Limit input found) = inr refl
 refusal_status (Malformed input place) = inl refl
 refusal_status (command.Refused fact) = inr refl
+refusal_status (LateStart late) = inr refl
 refusal_status (Prevented fact) = inr refl
 refusal_status (LongEvidence found) = inr refl
 

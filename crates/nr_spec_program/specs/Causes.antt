@@ -2,7 +2,8 @@
 use Rattle.std.specs.Prelude.{◌≡◌, ◌≢◌, ◌⊎◌, ℕ, ◌≤◌, ◌-◌, Bool, false, true, if◌then◌else◌, List, [], ◌∷◌, ◌++◌, Option, None, Some, Result, Ok, Err, option_map, take}
 use Rattle.nr_spec_history.specs.KeyFiles.{Key, key_file}
 use Rattle.nr_spec_log.specs.Authenticator.{Authenticator, auths_file, auths_of}
-use Rattle.nr_spec_log.specs.Answer.{AnswerFile, answer_of}
+use Rattle.nr_spec_log.specs.Answer.{AnswerFile}
+use Rattle.nr_spec_slices.specs.Reading.{slice_of}
 use Rattle.nr_spec_store.specs.LogFile.{LogFile}
 use Rattle.nr_spec_plans.specs.Disk.{Contents, Disk, Tape, Fault, Memory, Cuts, Writes, Syncs, more}
 use Rattle.nr_spec_plans.specs.Plans.{Action, Done, Ask, Read, Cut, Write, Sync, Halt, Refused, Faulted, Room, Runs, ◌>>=◌}
@@ -13,7 +14,7 @@ use Rattle.nr_spec_saving.specs.Saving.{PartsSaved, evidence_parts}
 use Rattle.nr_spec_commands.specs.Words.{named, Request, AuditRequest, CollectRequest, KeygenRequest, Audit, Keygen, Check, Record, Answer, Verify, Collect}
 use Rattle.nr_spec_texts.specs.Promises.{PromiseFile}
 use Rattle.nr_spec_program.specs.Command as command
-use Rattle.nr_spec_program.specs.Command.{Input, PromiseInput, AnswerInput, AuthsInput, KeyInput, LogInput, MrtInput, LogFact, KeySpent, LongEvidence, LongLog, NoFile, Limit, Malformed, Prevented, Work, Ending, Refusal, refusal_ending, fault_ending, key_ending, promise_ending, promise_plan, key_plan, load, well_formed, judged, audit_ending, evidence_of_report}
+use Rattle.nr_spec_program.specs.Command.{Input, PromiseInput, AnswerInput, AuthsInput, KeyInput, LogInput, MrtInput, LogFact, KeySpent, LateStart, LongEvidence, LongLog, NoFile, Limit, Malformed, Prevented, Work, Ending, Refusal, refusal_ending, fault_ending, key_ending, promise_ending, promise_plan, key_plan, load, well_formed, judged, audit_ending, evidence_of_report}
 use Rattle.nr_spec_program.specs.Recording.{answered_ending, recorded_ending}
 use Rattle.nr_spec_program.specs.Verifying.{verified_ending}
 use Rattle.nr_spec_program.specs.Collecting.{collected_ending, frames_plan}
@@ -198,6 +199,7 @@ names_asked request (NoFile input) = names_until request input
 names_asked request (Limit input found) = names_until request input
 names_asked request (Malformed input place) = names_until request input
 names_asked request (command.Refused fact) = read_names request
+names_asked request (LateStart late) = read_names request
 names_asked request (Prevented fact) = read_names request
 names_asked request (LongEvidence found) = read_names request
 
@@ -207,6 +209,7 @@ names_read request (NoFile input) = names_before request input
 names_read request (Limit input found) = names_before request input
 names_read request (Malformed input place) = names_until request input
 names_read request (command.Refused fact) = read_names request
+names_read request (LateStart late) = read_names request
 names_read request (Prevented fact) = read_names request
 names_read request (LongEvidence found) = read_names request
 
@@ -335,7 +338,7 @@ unfoldable pub reported_plan : AuditRequest → Work Reported
 reported_plan q = do
   promise ← promise_plan q.promise
   answer_bytes ← load AnswerInput q.answer
-  answer ← well_formed AnswerInput (answer_of answer_bytes)
+  answer ← Room (well_formed AnswerInput (slice_of answer_bytes))
   auths_bytes ← load AuthsInput q.auths
   auths ← well_formed AuthsInput (auths_of auths_bytes)
   report ← Room (judged q.root promise answer q.period auths)

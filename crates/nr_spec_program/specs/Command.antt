@@ -3,7 +3,7 @@ use Rattle.std.specs.Prelude.{ℕ, nat_le, if◌then◌else◌, List, [], ◌∷
 use Rattle.std.specs.Fmt.{decimal}
 use Rattle.hex.specs.Hex.{encode_lower}
 use Rattle.nr_spec_log.specs.Authenticator.{Authenticator, auths_of}
-use Rattle.nr_spec_log.specs.Answer.{AnswerFile, answer_of}
+use Rattle.nr_spec_log.specs.Answer.{AnswerFile}
 use Rattle.nr_spec_history.specs.Conflicts.{Period}
 use Rattle.nr_spec_history.specs.KeyFiles.{Key, seed_of, key_file, key_root}
 use Rattle.nr_rule_syntax.specs.Printing.{file_text}
@@ -17,7 +17,11 @@ use Rattle.nr_spec_frames.specs.Frames.{most_frames}
 use Rattle.nr_spec_saving.specs.Saving.{TooLong, save_evidence}
 use Rattle.nr_spec_outcome.specs.Report.{Report, claims_of}
 use Rattle.nr_spec_outcome.specs.Lines.{report_text}
-use Rattle.nr_spec_outcome.specs.Outcome.{Fact, Form, Network, Unsigned, Head, Short, Promise, outcome, promise_files}
+use Rattle.nr_spec_outcome.specs.Outcome.{Fact, Form, Network, Unsigned, Head, Short, Promise, promise_files}
+use Rattle.nr_spec_slices.specs.Reading.{slice_of}
+use Rattle.nr_spec_slices.specs.Late.{Late, Time, Body}
+use Rattle.nr_spec_slices.specs.Audits as slices
+use Rattle.nr_spec_slices.specs.Audits.{outcome_of}
 use Rattle.nr_spec_promises.specs.Files as files
 use Rattle.nr_spec_truth.specs.Truths.{meant}
 use Rattle.nr_spec_plans.specs.Disk.{Fault, ReadFault, WriteFault, Memory}
@@ -91,6 +95,8 @@ pub data Refusal : Type 0 where
   Malformed : (input : Input) (place : ℕ) → Refusal
   -- what the files say refuses the audit, or the check of evidence
   Refused : (fact : Fact) → Refusal
+  -- the checkpoint with which the answer starts is late, or is of another body
+  LateStart : (late : Late) → Refusal
   -- what the files say refuses the recording, or the answer
   Prevented : (fact : LogFact) → Refusal
   -- the evidence would be longer than it may be
@@ -139,6 +145,11 @@ fact_words (Head head chain) = codes "head" ∷ encode_lower head ∷ encode_low
 fact_words (Short head to) = codes "short" ∷ decimal head ∷ decimal to ∷ []
 fact_words (Promise found file) = codes "promise" ∷ digest_word found ∷ encode_lower file ∷ []
 
+-- two times, or the digests of the body and of the entry
+abbrev pub late_words : Late → List (List ℕ)
+late_words (Time checkpoint from) = codes "late" ∷ decimal checkpoint ∷ decimal from ∷ []
+late_words (Body body entry) = codes "late" ∷ encode_lower body ∷ encode_lower entry ∷ []
+
 abbrev pub log_fact_words : LogFact → List (List ℕ)
 log_fact_words (OtherNetwork found wanted) = codes "network" ∷ decimal found ∷ decimal wanted ∷ []
 log_fact_words (OtherRoot found wanted) = codes "key" ∷ encode_lower found ∷ encode_lower wanted ∷ []
@@ -161,6 +172,7 @@ refusal_ending (Limit input found) =
 refusal_ending (Malformed input place) =
     record { status = 3; text = line (codes "malformed" ∷ input_name input ∷ decimal place ∷ []) }
 refusal_ending (Refused fact) = record { status = 7; text = line (codes "refused" ∷ fact_words fact) }
+refusal_ending (LateStart late) = record { status = 7; text = line (codes "refused" ∷ late_words late) }
 refusal_ending (Prevented fact) = record { status = 7; text = line (codes "refused" ∷ log_fact_words fact) }
 refusal_ending (LongEvidence found) =
     record {
@@ -186,15 +198,17 @@ key_ending key = record { status = 0; text = line (codes "root" ∷ encode_lower
 unfoldable pub promise_ending : PromiseFile → Ending
 promise_ending promise = record { status = 0; text = file_text promise.file }
 
--- the report, where no fact refuses the audit
-abbrev pub concluded : Result Report Fact → Work Report
+-- the report, where nothing refuses the audit
+abbrev pub concluded : Result Report slices.Refusal → Work Report
 concluded (Ok report) = Done report
-concluded (Err fact) = Refuse (Refused fact)
+concluded (Err (slices.Malformed place)) = Refuse (Malformed AnswerInput place)
+concluded (Err (slices.Refused fact)) = Refuse (Refused fact)
+concluded (Err (slices.Checkpoint late)) = Refuse (LateStart late)
 
 -- what an answer shows by a promise file, whose formulas are true where they hold
 abbrev pub judged : List ℕ → PromiseFile → AnswerFile → Period → List Authenticator → Work Report
 judged root promise answer period auths =
-    concluded (outcome root (audited_by promise ∷ []) (meant (promise.says ∷ [])) answer period auths)
+    concluded (outcome_of root (audited_by promise ∷ []) (meant (promise.says ∷ [])) answer period auths)
 
 -- how an audit by a promise file ends that gave a report
 abbrev pub audit_ending : PromiseFile → Report → Ending
@@ -258,7 +272,7 @@ unfoldable pub audit_plan : AuditRequest → Work Ending
 audit_plan q = do
   promise ← promise_plan q.promise
   answer_bytes ← load AnswerInput q.answer
-  answer ← well_formed AnswerInput (answer_of answer_bytes)
+  answer ← Room (well_formed AnswerInput (slice_of answer_bytes))
   auths_bytes ← load AuthsInput q.auths
   auths ← well_formed AuthsInput (auths_of auths_bytes)
   report ← Room (judged q.root promise answer q.period auths)

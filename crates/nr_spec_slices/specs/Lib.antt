@@ -1,3 +1,4 @@
 pub mod Slices
 pub mod Late
 pub mod Audits
+pub mod Reading

@@ -1,0 +1,4 @@
+pub mod Before
+pub mod Places
+pub mod Stated
+pub mod Telling
