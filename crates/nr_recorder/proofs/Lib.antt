@@ -3,6 +3,7 @@ pub mod Booking
 pub mod Commits
 pub mod Listing
 pub mod Passing
+pub mod Replaying
 pub mod Steps
 pub mod Tips
 pub mod Waiting
