@@ -1,4 +1,5 @@
 pub mod Asked
+pub mod Behind
 pub mod Booking
 pub mod Commits
 pub mod Listing

@@ -16,12 +16,7 @@ use nr_tables::{State, Touched};
 use std::alloc::Global;
 
 // The routes after so many first entries, which are counted.
-fn replay(
-    alloc: Global,
-    log: &Log,
-    count: usize,
-    counts: &mut Counts,
-) -> Result<State, Memory>
+fn replay(alloc: Global, log: &Log, count: usize, counts: &mut Counts) -> Result<State, Memory>
     requires within { count ≤ length log.now }
     requires room { length log.now < 2 ^ 62 }
     requires nothing { IsKeptOf nothing_yet counts.old }
