@@ -73,11 +73,13 @@ class Log:
         body = struct.pack(">IQQ", self.asn, seq, time) + self.values[seq]
         return body + sign(body)
 
-    def answer(self, sign):
-        """The whole answer, with the authenticator of the last entry as its head."""
-        parts = [b"NRA1", struct.pack(">IQ", self.asn, 1), self.values[0], b"\0",
-                 struct.pack(">I", len(self.entries))]
-        parts.extend(entry(*e) for e in self.entries)
+    def answer(self, sign, start=1, body=None):
+        """The answer from an entry on, with the authenticator of the last entry as its head. From a later entry than the
+        first, which is a CHECKPOINT then, it has the checkpoint body."""
+        flagged = b"\0" if start == 1 else b"\1" + struct.pack(">I", len(body)) + body
+        parts = [b"NRA1", struct.pack(">IQ", self.asn, start), self.values[start - 1], flagged,
+                 struct.pack(">I", len(self.entries) - start + 1)]
+        parts.extend(entry(*e) for e in self.entries[start - 1:])
         parts.append(self.authenticator(len(self.entries), sign))
         return b"".join(parts)
 

@@ -1,9 +1,11 @@
 pub mod Asked
+pub mod Behind
 pub mod Booking
 pub mod Commits
 pub mod Linking
 pub mod Listing
 pub mod Passing
+pub mod Replaying
 pub mod Shown
 pub mod Steps
 pub mod Tips

@@ -1,34 +1,17 @@
 -- The answer of a whole log, and the spelling of its head.
-use Rattle.std.proofs.Common.{◌≡◌, ℕ, ◌++◌, [], List, take, length, Option, Some, None, Result, subst, sym, ap, ◌∙◌}
-use Rattle.std.specs.Option.{option_map}
+use Rattle.std.proofs.Common.{◌≡◌, ℕ, ◌++◌, [], List, length, ◌∙◌}
 use Rattle.nr_spec_log.specs.Chain.{LogEntry, value_after}
 use Rattle.nr_spec_log.specs.Authenticator.{authenticator, signature}
 use Rattle.nr_spec_log.specs.Answer.{last_time}
 use Rattle.nr_spec_keys.specs.Trees.{signature_by}
 use Rattle.nr_spec_history.specs.KeyFiles.{Key}
-use Rattle.nr_spec_entry.specs.Contents.{auditor}
-use Rattle.nr_spec_steps.specs.Heads.{answer_from_first, head_body, head_of, last_commit, last_leaf, log_chain, whole_answer}
-use Rattle.nr_recorder.specs.declared.answering.AnswerError.{AnswerError}
-use Rattle.nr_recorder.specs.Answering.{AnswersWhole}
+use Rattle.nr_spec_steps.specs.Heads.{head_body, head_of, last_leaf, log_chain}
 
 pub head_spelled : (key : Key) (log : List LogEntry) (value : List ℕ) (time leaf seq : ℕ) (out : List ℕ) → value ≡ value_after (log_chain key.asn) log → time ≡ last_time 0 log → seq ≡ length log → leaf ≡ last_leaf key.height log
     → out ≡ head_body key.asn seq time value ++ signature (signature_by key.seed key.height leaf (head_body key.asn seq time value)) → out ≡ authenticator (head_of key log)
 unfolding head_of
 head_spelled key log value time leaf seq out value_is time_is seq_is leaf_is out_is =
     out_is ∙ (λ i. head_body key.asn (seq_is i) (time_is i) (value_is i) ++ signature (signature_by key.seed key.height (leaf_is i) (head_body key.asn (seq_is i) (time_is i) (value_is i))))
-
-pub no_answer : (key : Key) (log : List LogEntry) (head : Option ℕ) → head ≡ last_commit auditor log → head ≡ None → whole_answer key log ≡ None
-unfolding whole_answer
-no_answer key log head is none = ap (option_map (λ (k : ℕ). answer_from_first key (take k log))) (sym is ∙ none)
-
-an_answer : (key : Key) (log : List LogEntry) (head : Option ℕ) (last : ℕ) → head ≡ last_commit auditor log → head ≡ Some last → whole_answer key log ≡ Some (answer_from_first key (take last log))
-unfolding whole_answer
-an_answer key log head last is some = ap (option_map (λ (k : ℕ). answer_from_first key (take k log))) (sym is ∙ some)
-
-pub answered : {V : Type 0} (bytes : V → List ℕ) (result : Result V AnswerError) (key : Key) (log entries : List LogEntry) (head : Option ℕ) (last : ℕ) → head ≡ last_commit auditor log → head ≡ Some last
-    → entries ≡ take last log → AnswersWhole bytes result (Some (answer_from_first key entries)) → AnswersWhole bytes result (whole_answer key log)
-answered bytes result key log entries head last is some entries_are whole =
-    subst (AnswersWhole bytes result) (ap (λ (l : List LogEntry). Some (answer_from_first key l)) entries_are ∙ sym (an_answer key log head last is some)) whole
 
 -- a body, and the signature of what is the same body
 pub with_signature : (seed : List ℕ) (height leaf : ℕ) (body empty read again put out : List ℕ) → empty ≡ [] → read ≡ body → again ≡ body → put ≡ empty ++ read → out ≡ put ++ signature (signature_by seed height leaf again)

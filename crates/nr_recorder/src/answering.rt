@@ -1,19 +1,22 @@
-//! Answers: the whole log up to its last head, with the head signed.
+//! Answers: the log up to its last head, from its first entry or from a checkpoint on, with the head signed.
 
-ghost use Rattle.std.specs.Prelude.{◌≡◌, ◌<◌, ◌^◌, IfOk, List, Some, length, map, unwrap_or};
+ghost use Rattle.std.specs.Prelude.{◌≡◌, ◌<◌, ◌≤◌, ◌+◌, ◌-◌, ◌^◌, IfOk, IfErr, IfSome, List, Ok, Some, drop, length, map, option_map, take, unwrap_or};
 ghost use Rattle.nr_chain.specs.Views.{entry_of};
 ghost use Rattle.nr_spec_log.specs.Chain.{LogEntry, value_after};
 ghost use Rattle.nr_spec_log.specs.Authenticator.{authenticator};
-ghost use Rattle.nr_spec_log.specs.Answer.{AreEntriesFrom, last_time};
+ghost use Rattle.nr_spec_log.specs.Answer.{AnswerFile, AreEntriesFrom, last_time, most_body};
+ghost use Rattle.nr_answer.specs.Writing.{IsMadeOf};
 ghost use Rattle.nr_spec_entry.specs.ContentReading.{content_of};
 ghost use Rattle.nr_spec_routes.specs.LookBack.{last_of};
-ghost use Rattle.nr_spec_steps.specs.Heads.{answer_from_first, head_body, head_of, leaf_in, log_chain, whole_answer};
-ghost use Rattle.nr_recorder.specs.Answering.{AnswersWhole, IsTip};
+ghost use Rattle.nr_spec_steps.specs.Heads.{answer_from_first, head_body, head_of, leaf_in, log_chain};
+ghost use Rattle.nr_spec_starts.specs.Starts.{answer_at, answer_behind, begins_with_checkpoint, is_checkpoint, started_answer};
+ghost use Rattle.nr_recorder.specs.Answering.{Answers, IsTip};
 
 use crate::recorder::{Core, leaves};
 use nr_answer::{WriteError, write_answer};
 use nr_bytes::{List, Memory, put_bytes, put_u32, put_u64};
 use nr_chain::{Digest, Entry, Item, Walk, genesis};
+use nr_discipline::EncodeError;
 use nr_entry::Content;
 use std::alloc::Global;
 
@@ -22,6 +25,10 @@ use std::alloc::Global;
 pub enum AnswerError {
     /// The log has no COMMIT to the auditor.
     NoHead,
+    /// The entry of this number isn't a CHECKPOINT in the grammar before the head.
+    NoCheckpoint(u64),
+    /// The checkpoint body would be longer than 536,870,912 bytes: how long.
+    LongBody(u64),
     /// The answer file would be longer than 2,147,483,647 bytes: how long.
     TooLong(u64),
     /// Memory ran out.
@@ -55,6 +62,44 @@ pub fn leaf_after(leaf: u32, entry: &Entry<'_>) -> u32
         Some(Content::Commit { leaf, .. }) => leaf,
         _ => leaf,
     }
+}
+
+// Whether an entry is a CHECKPOINT.
+fn is_checkpoint(entry: &Entry<'_>) -> bool
+    ensures { result ≡ is_checkpoint (content_of (entry_of entry.now)) }
+{
+    matches!(
+        nr_entry::read(entry.kind, entry.content),
+        Some(Content::Checkpoint { .. })
+    )
+}
+
+// Whether the first of entries is a CHECKPOINT.
+fn begins_with_checkpoint(entries: &List<Entry<'_>>) -> bool
+    ensures { result ≡ begins_with_checkpoint (map entry_of entries.now) }
+{
+    match entries.get(0) {
+        Some(entry) => is_checkpoint(&entry),
+        None => false,
+    }
+}
+
+// The entries without so many first ones.
+fn entries_behind<'a>(
+    alloc: Global,
+    entries: &List<Entry<'a>>,
+    count: usize,
+) -> Result<List<Entry<'a>>, Memory>
+    ensures { IfOk result (λ later. later ≡ drop count entries.now) }
+{
+    let mut later = List::new(alloc);
+    for i in count..entries.len() {
+        match entries.get(i) {
+            Some(entry) => later.push(entry)?,
+            None => unreachable!(),
+        }
+    }
+    Ok(later)
 }
 
 fn tip_of(asn: u32, entries: &List<Entry<'_>>) -> Tip
@@ -101,6 +146,31 @@ fn head_body(
     Ok(body)
 }
 
+// The bytes of an answer of these parts.
+fn write(
+    alloc: Global,
+    asn: u32,
+    first: u64,
+    prev: &Digest,
+    body: Option<&[u8]>,
+    entries: &List<Entry<'_>>,
+    head: &[u8],
+) -> Result<Vec<u8>, AnswerError>
+    requires body { IfSome body (λ body. length body.now ≤ most_body) }
+    requires fit { AreEntriesFrom 0 (map entry_of entries.now) }
+    requires few { length entries.now < 2 ^ 32 }
+    ensures { (answer : AnswerFile)
+        → IsMadeOf answer asn first prev.now.0 (option_map (λ body. body.now) body.entry)
+        (map entry_of entries.now) head.now
+        → Answers (λ out. out.items) result (Ok answer) }
+{
+    match write_answer(alloc, asn, first, prev, body, entries, head) {
+        Ok(bytes) => Ok(bytes),
+        Err(WriteError::TooLong(size)) => Err(AnswerError::TooLong(size)),
+        Err(WriteError::Memory) => Err(AnswerError::Memory),
+    }
+}
+
 impl Core {
     // The spelling of the authenticator of the last of entries.
     fn head_bytes(&self, entries: &List<Entry<'_>>) -> Result<Vec<u8>, Memory>
@@ -126,40 +196,101 @@ impl Core {
         Ok(head)
     }
 
-    /// The answer from entry `start` on, which is 1: the whole log up to its last COMMIT to the auditor, ended by the
-    /// head that this COMMIT signs.
+    /// The answer from entry `start` on, up to the last COMMIT to the auditor and ended by the head that this COMMIT
+    /// signs: the whole log from entry 1, and else from a CHECKPOINT, with the body of the state before it.
     pub fn answer(&self, start: u64) -> Result<Vec<u8>, AnswerError>
-        requires start { start ≡ 1 }
         requires few { length self.now.log < 2 ^ 32 }
-        ensures { AnswersWhole (λ out. out.items) result (whole_answer self.now.key self.now.log) }
+        ensures { Answers (λ out. out.items) result (started_answer self.now.key self.now.log start) }
     {
         let Some(last) = self.head() else {
             return Err(AnswerError::NoHead);
         };
         let entries = self.first(last)?;
-        let head = self.head_bytes(&entries)?;
-        self.write(start, &entries, &head)
+        self.answer_of(start, &entries)
     }
 
-    // The answer of entries whose head is spelled so.
-    fn write(
-        &self,
-        start: u64,
-        entries: &List<Entry<'_>>,
-        head: &[u8],
-    ) -> Result<Vec<u8>, AnswerError>
-        requires start { start ≡ 1 }
+    // The answer of the first entries of the log, which end with the head, from an entry on.
+    fn answer_of(&self, start: u64, entries: &List<Entry<'_>>) -> Result<Vec<u8>, AnswerError>
+        requires few { length entries.now < 2 ^ 32 }
+        requires room { length self.now.log < 2 ^ 32 }
+        requires fit { AreEntriesFrom 0 (map entry_of entries.now) }
+        requires first { map entry_of entries.now ≡ take (length entries.now) self.now.log }
+        ensures { Answers (λ out. out.items) result (answer_at self.now.key (map entry_of entries.now) start) }
+    {
+        match start {
+            0 => Err(AnswerError::NoCheckpoint(0)),
+            1 => self.write_whole(entries),
+            _ => self.answer_behind(start as usize - 1, entries),
+        }
+    }
+
+    // The answer of entries from the first on.
+    fn write_whole(&self, entries: &List<Entry<'_>>) -> Result<Vec<u8>, AnswerError>
         requires few { length entries.now < 2 ^ 32 }
         requires fit { AreEntriesFrom 0 (map entry_of entries.now) }
-        requires head { head.now ≡ authenticator (head_of self.now.key (map entry_of entries.now)) }
-        ensures { AnswersWhole (λ out. out.items) result
-            (Some (answer_from_first self.now.key (map entry_of entries.now))) }
+        ensures { Answers (λ out. out.items) result
+            (Ok (answer_from_first self.now.key (map entry_of entries.now))) }
     {
+        let head = self.head_bytes(entries)?;
         let prev = genesis(self.asn);
-        match write_answer(self.alloc, self.asn, start, &prev, None, entries, head) {
-            Ok(bytes) => Ok(bytes),
-            Err(WriteError::TooLong(size)) => Err(AnswerError::TooLong(size)),
-            Err(WriteError::Memory) => Err(AnswerError::Memory),
+        write(self.alloc, self.asn, 1, &prev, None, entries, &head)
+    }
+
+    // The answer of what stands behind the first `before` of entries.
+    fn answer_behind(
+        &self,
+        before: usize,
+        entries: &List<Entry<'_>>,
+    ) -> Result<Vec<u8>, AnswerError>
+        requires some { 0 < before }
+        requires number { before < 2 ^ 64 - 1 }
+        requires few { length entries.now < 2 ^ 32 }
+        requires room { length self.now.log < 2 ^ 32 }
+        requires fit { AreEntriesFrom 0 (map entry_of entries.now) }
+        requires first { map entry_of entries.now ≡ take (length entries.now) self.now.log }
+        ensures { Answers (λ out. out.items) result
+            (answer_at self.now.key (map entry_of entries.now) (before + 1)) }
+    {
+        let later = entries_behind(self.alloc, entries, before)?;
+        if begins_with_checkpoint(&later) {
+            self.write_behind(before, entries, &later)
+        } else {
+            Err(AnswerError::NoCheckpoint(before as u64 + 1))
         }
+    }
+
+    // The same, where a checkpoint stands first behind them.
+    fn write_behind(
+        &self,
+        before: usize,
+        entries: &List<Entry<'_>>,
+        later: &List<Entry<'_>>,
+    ) -> Result<Vec<u8>, AnswerError>
+        requires within { before ≤ length entries.now }
+        requires few { length entries.now < 2 ^ 32 }
+        requires room { length self.now.log < 2 ^ 32 }
+        requires fit { AreEntriesFrom 0 (map entry_of entries.now) }
+        requires first { map entry_of entries.now ≡ take (length entries.now) self.now.log }
+        requires later { later.now ≡ drop before entries.now }
+        ensures { Answers (λ out. out.items) result
+            (Ok (answer_behind self.now.key before (map entry_of entries.now))) }
+    {
+        let body = match self.body_after(before) {
+            Ok(body) => body,
+            Err(EncodeError::TooLong(size)) => return Err(AnswerError::LongBody(size)),
+            Err(EncodeError::Memory) => return Err(AnswerError::Memory),
+        };
+        let head = self.head_bytes(entries)?;
+        let first = self.first(before as u64)?;
+        let prev = tip_of(self.asn, &first).value;
+        write(
+            self.alloc,
+            self.asn,
+            before as u64 + 1,
+            &prev,
+            Some(&body),
+            later,
+            &head,
+        )
     }
 }

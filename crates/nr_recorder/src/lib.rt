@@ -12,6 +12,7 @@ mod outcome;
 mod own;
 mod recorder;
 mod speaking;
+mod starting;
 mod telling;
 
 pub use answering::AnswerError;

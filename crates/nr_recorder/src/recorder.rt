@@ -1,6 +1,6 @@
 //! The core.
 
-ghost use Rattle.std.specs.Prelude.{◌≡◌, ◌≤◌, ◌<◌, ◌+◌, ◌^◌, ◌-◌, ◌++◌, ◌∷◌, [], ℕ, List, Option, None, IfOk, IfSome, drop, filter, length, map, nat_lt, option_map, take, unwrap_or, if◌then◌else◌};
+ghost use Rattle.std.specs.Prelude.{◌≡◌, ◌≤◌, ◌<◌, ◌+◌, ◌^◌, ◌-◌, ◌++◌, ◌∷◌, [], ℕ, List, Option, None, IfErr, IfOk, IfSome, drop, filter, length, map, nat_lt, option_map, take, unwrap_or, if◌then◌else◌};
 ghost use Rattle.nr_chain.specs.Views.{entry_of};
 ghost use Rattle.nr_spec_log.specs.Answer.{AreEntriesFrom, IsEntry, last_time};
 ghost use Rattle.nr_spec_log.specs.Chain.{LogEntry};
@@ -11,6 +11,9 @@ ghost use Rattle.nr_spec_steps.specs.Events.{is_close};
 ghost use Rattle.nr_spec_steps.specs.Steps.{commits_to, is_idle, is_spent};
 ghost use Rattle.nr_spec_steps.specs.Heads.{last_commit, numbered};
 ghost use Rattle.nr_spec_steps.specs.Telling.{IsRoomy};
+ghost use Rattle.nr_spec_report.specs.Wrong.{nothing_before};
+ghost use Rattle.nr_spec_bodies.specs.Bases.{body_of, state_after};
+ghost use Rattle.nr_discipline.specs.Lengths.{SaysTooLong};
 ghost use Rattle.nr_events.specs.Views.{event_of};
 ghost use Rattle.nr_recorder.specs.Kept.{entry_number, with_entries};
 ghost use Rattle.nr_recorder.specs.Speaking.{ending};
@@ -23,9 +26,11 @@ use crate::links::follow;
 use crate::log::Owned;
 use crate::outcome::{Out, Refusal, list_commits};
 use crate::own::Own;
+use crate::starting::body_after;
 use crate::telling::{is_close, told};
 use nr_bytes::Memory;
 use nr_chain::{Digest, Entry};
+use nr_discipline::EncodeError;
 use nr_entry::AUDITOR;
 use nr_events::Event;
 use nr_lamport::Seed;
@@ -287,6 +292,19 @@ impl Core {
         ensures fit { IfOk result (λ entries. AreEntriesFrom 0 (map entry_of entries)) }
     {
         self.book.log_to(self.alloc, count as usize)
+    }
+
+    /// The checkpoint body of the state after so many first entries.
+    pub(crate) fn body_after(&self, count: usize) -> Result<Vec<u8>, EncodeError>
+        requires within { count ≤ length self.now.log }
+        requires room { length self.now.log < 2 ^ 62 }
+        ensures body { IfOk result (λ body. body.items
+            ≡ body_of (state_after nothing_before (take count self.now.log))) }
+        ensures bound { IfOk result (λ body. length body.items ≤ 536870912) }
+        ensures long { IfErr result (λ e. SaysTooLong e
+            (length (body_of (state_after nothing_before (take count self.now.log))))) }
+    {
+        body_after(self.alloc, self.book.log(), count)
     }
 
     /// The number of the last COMMIT to the auditor.
