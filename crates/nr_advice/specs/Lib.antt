@@ -4,3 +4,4 @@ pub mod Places
 pub mod Plain
 pub mod Sentences
 pub mod Words
+pub mod Lines

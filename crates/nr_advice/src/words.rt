@@ -10,9 +10,9 @@ use crate::commands::{CommandRow, Kind, OptionRow};
 use crate::page::Page;
 use std::alloc::AllocError;
 
-// What stands behind a text with which a word begins.
+/// What stands behind a text with which a word begins.
 #[tactic(auto, using(crate::proofs::Prefixes::stripped))]
-fn behind_text<'a>(word: &'a str, text: &str) -> Option<&'a str>
+pub fn behind_text<'a>(word: &'a str, text: &str) -> Option<&'a str>
     ensures { option_copied result ≡ behind_text text.now word.now }
 {
     word.strip_prefix(text)
