@@ -26,13 +26,15 @@ pub fn endings_tell_the_values()
         → ((verified_ending values).status ≡ 0) ↔ AllByRecursion (λ value. value ≡ true) values }
 {}
 
-/// Where a run of `audit` is to save evidence of files of bytes, of which the answer starts with entry 1, and answers 0 or 1, or has such an ending and the sink
-/// fails, its evidence file holds the evidence of its report; and a run of `verify` by the same root, which is given
-/// what that file holds, wherever and under whatever name, accepts every claim of that report.
+/// Where a run of `audit` is to save evidence of files of bytes, of which the answer starts with entry 1, and answers 0
+/// or 1, or has such an ending and the sink fails, its evidence file holds the evidence of its report; and a run of
+/// `verify` by the same root, which is given what that file holds, wherever and under whatever name, accepts every claim
+/// of that report. Evidence of an answer that starts later is refused by `verify`, so nothing is said of it.
 pub fn verify_accepts_the_evidence_of_an_audit()
     ensures { (words checking : List (List ℕ)) (q : AuditRequest) (r : VerifyRequest) (name : List ℕ)
         (old new start end : Disk) (before after begin done : Tape) (status answered : ℕ) (t : Told)
-        → request_in words ≡ Some (Audit q) → q.evidence ≡ Some name → old.told ≡ Some t → HoldsBytes t.holds q → HoldsWhole t.holds q
+        → request_in words ≡ Some (Audit q) → q.evidence ≡ Some name → old.told ≡ Some t → HoldsBytes t.holds q
+        → HoldsWhole t.holds q
         → (run : RunsTo (plan_for words) old new before after status)
         → Answered (λ s. (s ≡ 0) ⊎ (s ≡ 1)) run.ending status
         → request_in checking ≡ Some (Verify r) → IsHanded q r name new start
