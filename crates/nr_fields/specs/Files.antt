@@ -1,11 +1,11 @@
 -- Which field of a file a byte belongs to. What stands behind the byte plays no part.
-use Rattle.std.specs.Prelude.{ℕ, ◌-◌, ◌==◌, nat_lt, if◌then◌else◌, List, length, drop}
+use Rattle.std.specs.Prelude.{ℕ, ◌+◌, ◌-◌, ◌*◌, ◌==◌, nat_lt, if◌then◌else◌, List, length, drop}
 use Rattle.nr_fields.specs.Fields.{seed_field, key_field, auth_field, entry_field, front_field, mrt_field, birth_field, claims_field}
 use Rattle.nr_fields.specs.Records.{number_behind, spot_among}
 use Rattle.nr_fields.specs.declared.records.Shape.{Shape}
 use Rattle.nr_fields.specs.declared.records.Spot.{Spot}
 use Rattle.nr_fields.specs.declared.field.Field.{Field}
-use Rattle.nr_fields.specs.declared.field.Field.TheVariants.{Magic, EntryCount, CheckpointLength, Checkpoint, FrameLength, Frame, BatchLength, Gate, AnswerLength, PromiseLength, Promise}
+use Rattle.nr_fields.specs.declared.field.Field.TheVariants.{Magic, Surplus, EntryCount, CheckpointLength, Checkpoint, FrameLength, Frame, BatchLength, Gate, AnswerLength, PromiseLength, Promise}
 use Rattle.nr_fields.specs.declared.format.Format.{Format}
 use Rattle.nr_fields.specs.declared.format.Format.TheVariants as format
 
@@ -25,15 +25,27 @@ frames = record { front = 4; start = 0; width = 4; unit = 1 }
 abbrev pub records : Shape
 records = record { front = 12; start = 8; width = 4; unit = 1 }
 
+-- what is left of the bytes where a spot begins
+abbrev pub rest_at : List ℕ → ℕ → Spot → List ℕ
+rest_at bytes at spot = drop (at - spot.at) bytes
+
+-- the head of an answer, which ends by the height of its tree, and what stands behind it
+abbrev pub head_field : List ℕ → ℕ → Field
+head_field bytes at =
+    if nat_lt at 57 then auth_field at
+    else (if nat_lt at (16441 + 32 * number_behind 56 1 bytes) then auth_field at else Surplus)
+
 -- the entries of an answer, and behind them its head
-abbrev pub entries_or_head : Spot → Field
-entries_or_head spot = if spot.left == 0 then auth_field spot.at else entry_field spot.at
+abbrev pub entries_or_head : List ℕ → ℕ → Spot → Field
+entries_or_head bytes at spot =
+    if spot.left == 0 then head_field (rest_at bytes at spot) spot.at else entry_field spot.at
 
 -- an answer from its entry count on
 unfoldable pub counted_field : List ℕ → ℕ → Field
 counted_field bytes at =
     if nat_lt at 4 then EntryCount
-    else entries_or_head (spot_among entries (number_behind 0 4 bytes) (drop 4 bytes) (at - 4))
+    else entries_or_head (drop 4 bytes) (at - 4)
+    (spot_among entries (number_behind 0 4 bytes) (drop 4 bytes) (at - 4))
 
 -- an answer from the length of a body on
 unfoldable pub body_field : List ℕ → ℕ → Field
@@ -48,12 +60,9 @@ answer_field bytes at =
     else (if number_behind 48 1 bytes == 1 then body_field (drop 49 bytes) (at - 49)
     else counted_field (drop 49 bytes) (at - 49))
 
--- where an offset stands among records up to the end of the bytes, and what is left of the bytes there
+-- where an offset stands among records up to the end of the bytes
 abbrev pub spot_in : Shape → List ℕ → ℕ → Spot
 spot_in shape bytes at = spot_among shape (length bytes) bytes at
-
-abbrev pub rest_at : List ℕ → ℕ → Spot → List ℕ
-rest_at bytes at spot = drop (at - spot.at) bytes
 
 -- authenticators behind the magic
 unfoldable pub auths_field : List ℕ → ℕ → Field

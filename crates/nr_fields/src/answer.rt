@@ -1,7 +1,7 @@
 //! Answers.
 
 ghost use Rattle.std.specs.Prelude.{◌≡◌, ◌≤◌, length};
-ghost use Rattle.nr_fields.specs.Files.{answer_field, body_field, counted_field, entries_or_head};
+ghost use Rattle.nr_fields.specs.Files.{answer_field, body_field, counted_field, entries_or_head, head_field};
 
 use crate::field::Field;
 use crate::parts::{auth_field, entry_field, front_field};
@@ -15,11 +15,25 @@ pub const ENTRIES: Shape = Shape {
     unit: 1,
 };
 
-fn entries_or_head(spot: Spot) -> Field
-    ensures { result ≡ entries_or_head spot }
+// The head, from its first byte on.
+fn head_field(bytes: &[u8], at: usize) -> Field
+    requires { at ≤ length bytes.now }
+    ensures { result ≡ head_field bytes.now at }
+{
+    if at < 57 || (at as u64) < 16_441 + 32 * number_behind(56, 1, bytes) {
+        auth_field(at)
+    } else {
+        Field::Surplus
+    }
+}
+
+fn entries_or_head(bytes: &[u8], at: usize, spot: Spot) -> Field
+    requires inside { at ≤ length bytes.now }
+    requires within { spot.at ≤ at }
+    ensures { result ≡ entries_or_head bytes.now at spot }
 {
     if spot.left == 0 {
-        auth_field(spot.at)
+        head_field(behind(at - spot.at, bytes), spot.at)
     } else {
         entry_field(spot.at)
     }
@@ -35,7 +49,9 @@ fn counted_field(bytes: &[u8], at: usize) -> Field
         return Field::EntryCount;
     }
     let count = number_behind(0, 4, bytes);
-    entries_or_head(spot_among(&ENTRIES, count, behind(4, bytes), at - 4))
+    let rest = behind(4, bytes);
+    let spot = spot_among(&ENTRIES, count, rest, at - 4);
+    entries_or_head(rest, at - 4, spot)
 }
 
 // From the length of a body on.

@@ -76,11 +76,11 @@ pub fn name_of(field: Field) -> &'static str {
         Field::BodyLength => "the length of a record's body",
         Field::Body => "the body of a record",
         Field::AnswerLength => "the length of the answer",
-        Field::PromiseLength => "the length of the promise text",
+        Field::PromiseLength => "the end of the answer, or the length of the promise text",
         Field::Promise => "the promise text",
         Field::From => "the begin of the period",
         Field::To => "the end of the period",
         Field::ClaimCount => "the count of claims",
-        Field::Claim => "a claim",
+        Field::Claim => "a claim, or what stands behind the last",
     }
 }

@@ -6,4 +6,4 @@ mod acknowledging;
 mod sending;
 
 pub use acknowledging::{acknowledged_was_accepted, acknowledges_fairly};
-pub use sending::{frame_of_commit_is_signed_by_it, frame_shows_the_log};
+pub use sending::{frame_head_states_its_last_entry, frame_shows_the_log};

@@ -14,7 +14,7 @@ pub fn frame_shows_the_log()
 {}
 
 /// The authenticator of a frame states the number and the chain value of its last entry.
-pub fn frame_of_commit_is_signed_by_it()
+pub fn frame_head_states_its_last_entry()
     ensures { (key : Key) (to_as n : ℕ) (log : List LogEntry) (after k : ℕ) → k ≤ length log
         → ((frame_for key to_as n log after k).auth.seq ≡ k)
         × ((frame_for key to_as n log after k).auth.hash ≡ value_after (log_chain key.asn) (take k log)) }

@@ -154,8 +154,8 @@ impl Core {
         })
     }
 
-    /// The same core, which keeps the chain value of each of its entries: its frames then take no walk from the first entry.
-    /// After `Memory` the core is gone.
+    /// The same core, with the chain values of its entries so far kept, so that its frames take no walk over these. Only
+    /// time depends on what is kept, so no clause speaks of it. After `Memory` the core is gone.
     pub fn link(self) -> Result<Core, Memory>
         requires { length self.log < 2 ^ 62 }
         ensures { IfOk result (λ core. core ≡ self) }

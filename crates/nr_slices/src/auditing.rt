@@ -51,7 +51,8 @@ fn told_by(late: Option<Late>, told: Result<Report, Refusal>) -> Result<Report, 
 
 /// What an answer and the authenticators that were handed in show of a network in a period, by what stands before the
 /// answer's entries: the report, or what refuses the answer first. It is as `nr_audit::audit_over`, which it calls once;
-/// besides the body of an answer that has one is hashed, where the checkpoint's time is before the period.
+/// besides the body of an answer that has one is hashed, where the checkpoint's time is before the period. A late start is
+/// told once the audit is made, since some facts go before it: the audit's costs are those of one that isn't late.
 pub fn audit_slice<J: Judge<L>, L: Ledger>(
     alloc: Global,
     root: &Digest,
