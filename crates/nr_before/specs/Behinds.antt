@@ -1,0 +1,28 @@
+-- What is kept of the first entries of a log.
+use Rattle.std.specs.Prelude.{◌≡◌, ◌+◌, ◌<◌, ◌^◌, [], ℕ, List, length}
+use Rattle.nr_spec_log.specs.Chain.{Chain, LogEntry, value_after}
+use Rattle.nr_spec_routes.specs.Keys.{Row}
+use Rattle.nr_spec_routes.specs.Rows.{rows_after}
+use Rattle.nr_spec_steps.specs.Heads.{log_chain}
+use Rattle.nr_spec_steps.specs.Steps.{known}
+use Rattle.nr_discipline.specs.Kept as counts
+use Rattle.nr_discipline.specs.Kept.{IsKeptOf}
+
+pub record Kept : Type 0 where
+  pub rows : List Row
+  pub counts : counts.Kept
+  pub chain : Chain
+
+-- it is what these entries of the log of an AS leave
+pub record IsLeftBy (asn : ℕ) (log : List LogEntry) (k : Kept) : Type 0 where
+  pub rows : k.rows ≡ rows_after [] log
+  pub counts : IsKeptOf (known log) k.counts
+  pub value : k.chain.value ≡ value_after (log_chain asn) log
+  pub seq : k.chain.seq ≡ length log + 1
+
+-- it is what some entries leave, which are fewer than 2^62
+pub record IsLeft (k : Kept) : Type 0 where
+  pub asn : ℕ
+  pub log : List LogEntry
+  pub few : length log < 2 ^ 62
+  pub left : IsLeftBy asn log k
