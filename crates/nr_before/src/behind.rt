@@ -81,6 +81,13 @@ impl Behind {
         self.walk.value()
     }
 
+    /// The number of the next entry.
+    pub fn next_seq(&self) -> u64
+        ensures { (asn : ℕ) (log : List LogEntry) → IsLeftBy asn log self.now → result ≡ length log + 1 }
+    {
+        self.walk.next_seq()
+    }
+
     /// The checkpoint body of what the entries leave. `TooLong` comes exactly where it has more than 536,870,912 bytes, and
     /// says how many.
     pub fn body(&self) -> Result<Vec<u8>, EncodeError>
