@@ -1,2 +1,3 @@
 mod Acked
+mod Ends
 mod Shown

@@ -1,9 +1,10 @@
 //! What the frames of a recorder show.
 
-ghost use Rattle.std.specs.Prelude.{◌≡◌, ◌<◌, ◌≤◌, ℕ, List, length, take};
+ghost use Rattle.std.specs.Prelude.{◌≡◌, ◌<◌, ◌≤◌, ℕ, List, length, take, true};
 ghost use Rattle.nr_spec_log.specs.Chain.{LogEntry, value_after};
-ghost use Rattle.nr_spec_history.specs.KeyFiles.{Key};
+ghost use Rattle.nr_spec_history.specs.KeyFiles.{Key, key_root};
 ghost use Rattle.nr_spec_frames.specs.Showing.{Shows};
+ghost use Rattle.nr_spec_frames.specs.Verdicts.{is_signed_end};
 ghost use Rattle.nr_spec_steps.specs.Heads.{log_chain};
 ghost use Rattle.nr_spec_deliveries.specs.Sending.{frame_for};
 
@@ -18,4 +19,11 @@ pub fn frame_head_states_its_last_entry()
     ensures { (key : Key) (to_as n : ℕ) (log : List LogEntry) (after k : ℕ) → k ≤ length log
         → ((frame_for key to_as n log after k).auth.seq ≡ k)
         × ((frame_for key to_as n log after k).auth.hash ≡ value_after (log_chain key.asn) (take k log)) }
+{}
+
+/// The authenticator of a frame is signed under the key's root and speaks of the frame's last item, with the AS, the number,
+/// the time and the chain value that its receiver finds there: no frame of a recorder is `unsigned`.
+pub fn a_frame_is_signed_as_its_receiver_asks()
+    ensures { (key : Key) (to_as n : ℕ) (log : List LogEntry) (after k : ℕ) → after < k → k ≤ length log
+        → is_signed_end (key_root key) (frame_for key to_as n log after k) ≡ true }
 {}
