@@ -1,3 +1,4 @@
 mod Acked
 mod Ends
+mod Fitting
 mod Shown

@@ -8,4 +8,5 @@ mod sending;
 pub use acknowledging::{acknowledged_was_accepted, acknowledges_fairly};
 pub use sending::{
     a_frame_is_signed_as_its_receiver_asks, frame_head_states_its_last_entry, frame_shows_the_log,
+    what_a_recorder_sends_is_a_frame,
 };
